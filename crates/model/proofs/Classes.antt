@@ -1,0 +1,148 @@
+-- The class table: what its 66 rows have in common, found by one computed test, and what a size that is accepted takes.
+use Prim.Native.Nat.{ℕ, zero, suc, _+_, _-_, _*_, _/_, _%_, _<_, _≤_}
+use mathlib.Core.Bool.{Bool, true, false, _&&_, not, cond}
+use mathlib.Core.Logic.{_≢_, _⊎_, inl, inr}
+use mathlib.Core.Path.{_≡_, refl, sym, _∙_, ap}
+use native.Mathlib.Omega.{arith}
+use lib.Dec.{T, eqb, ltb, leb}
+use borrow.Author.Tests.{ltb-true, ltb-false, eqb-true, eqb-false, eq-eqb, ne-eqb, lt-ltb, le-ltb, leb-true, leb-false, le-leb}
+use Rattle.model.specs.Bounded.{_==_, _<?_, _≤?_, allBelow, firstFrom, firstBelow}
+use Rattle.model.specs.Classes.{classRows, elementBytes, spanBytes, classOf, elementsOf, elementWordsOf, classPages, pagesFor, kindOf}
+use Rattle.model.proofs.Tests.{is-true, of-true}
+use Rattle.model.proofs.Bounded.{all-at, first-props, First}
+use Rattle.model.proofs.Rules.{tests}
+
+-- row k: an element has words and lies in the span, the span has 1 to 10 pages, its elements fit into it, and there is at least one
+goodRow : ℕ → Bool
+goodRow k =
+    0 <? elementWordsOf (k + 1) 0 && 0 <? classPages (k + 1) && classPages (k + 1) ≤? 10 && 0 <? elementsOf (k + 1)
+    && elementsOf (k + 1) * elementWordsOf (k + 1) 0 ≤? 1024 * classPages (k + 1)
+
+good-rows : allBelow 66 goodRow ≡ true
+unfolding allBelow goodRow elementWordsOf elementsOf classPages elementBytes spanBytes classRows
+good-rows = refl
+
+-- elements of class c in a span of n pages
+pub record Fits (c n : ℕ) : Type 0 where
+  pub words : 0 < elementWordsOf c n
+  pub pages : 0 < n
+  pub short : n ≤ 128
+  pub some : 0 < elementsOf c
+  pub inside : elementsOf c * elementWordsOf c n ≤ 1024 * n
+
+-- the words of an element: of all pages in class 0, else of the class's bytes
+pub large-words : (n : ℕ) → elementWordsOf 0 n ≡ 1024 * n
+unfolding elementWordsOf
+large-words n = refl
+
+pub small-words : (c n : ℕ) → c ≢ 0 → elementWordsOf c n ≡ elementBytes c / 8
+unfolding elementWordsOf
+small-words c n d = rw (ne-eqb c 0 d)
+
+large-class : (size : ℕ) → ltb 32768 size ≡ true → classOf size ≡ 0
+unfolding classOf
+large-class size e = rw e
+
+large-pages : (size : ℕ) → classOf size ≡ 0 → pagesFor size ≡ (size + 8191) / 8192
+unfolding pagesFor
+large-pages size c = rw c
+
+small-pages : (size : ℕ) → classOf size ≢ 0 → pagesFor size ≡ classPages (classOf size)
+unfolding pagesFor
+small-pages size d = rw (ne-eqb (classOf size) 0 d)
+
+-- a class that is not 0 has elements of one size, whatever the span
+pub words-any : (c m n : ℕ) → c ≢ 0 → elementWordsOf c m ≡ elementWordsOf c n
+unfolding elementWordsOf
+words-any c m n d = rw (ne-eqb c 0 d)
+
+pub small-fits : (c : ℕ) → c ≢ 0 → c ≤ 66 → Fits c (classPages c)
+unfolding goodRow
+small-fits c d l =
+    let e : c - 1 + 1 ≡ c = omega arith in
+    let x = simp tests at (is-true _ (rw e at (all-at 66 goodRow good-rows (c - 1) (omega arith)))) in
+    let z = words-any c (classPages c) 0 d in
+    record { words = rw z (x .0 .0 .0 .0); pages = x .0 .0 .0 .1; short = omega (arith, x .0 .0 .1); some = x .0 .1; inside = rw z (x .1) }
+
+pub large-fits : (n : ℕ) → 0 < n → n ≤ 128 → Fits 0 n
+unfolding elementWordsOf elementsOf
+large-fits n l m = record { words = omega arith; pages = l; short = m; some = omega arith; inside = omega arith }
+
+-- a size of 1 to 32,768 has a class, and fits its element
+record Small (size : ℕ) : Type 0 where
+  low : classOf size ≢ 0
+  high : classOf size ≤ 66
+  bytes : size ≤ elementBytes (classOf size)
+
+last-row : elementBytes 66 ≡ 32768
+unfolding elementBytes classRows
+last-row = refl
+
+small-class : (size : ℕ) → size ≤ 32768 → Small size
+small-class size l = record { low = omega (arith, is); high = omega (arith, is, below); bytes = rw is (leb-true _ _ (f .holds below)) }
+  where
+    f : First 66 (λ k. size ≤? elementBytes (k + 1)) (firstBelow 66 (λ k. size ≤? elementBytes (k + 1)))
+    f = first-props 66 (λ k. size ≤? elementBytes (k + 1))
+
+    is : classOf size ≡ firstBelow 66 (λ k. size ≤? elementBytes (k + 1)) + 1
+    is = unfold classOf in rw (le-ltb 32768 size l)
+
+    below : firstBelow 66 (λ k. size ≤? elementBytes (k + 1)) < 66
+    below = go (ltb (firstBelow 66 (λ k. size ≤? elementBytes (k + 1))) 66) refl
+      where
+        go : (b : Bool) → ltb (firstBelow 66 (λ k. size ≤? elementBytes (k + 1))) 66 ≡ b → firstBelow 66 (λ k. size ≤? elementBytes (k + 1)) < 66
+        go true e = ltb-true (firstBelow 66 (λ k. size ≤? elementBytes (k + 1))) 66 e
+        go false e = absurd (omega (arith, leb-false size (elementBytes 66) (f .before 65 (omega (arith, ltb-false (firstBelow 66 (λ k. size ≤? elementBytes (k + 1))) 66 e))), last-row))
+
+-- what an accepted size and number of pointers take: the class, its kind and the pages of a new span
+pub record Takes (size p : ℕ) : Type 0 where
+  pub kind : kindOf size p < 134
+  pub class : kindOf size p / 2 ≡ classOf size
+  pub scan : (kindOf size p % 2 == 0) ≡ ltb 0 p
+  pub fits : Fits (classOf size) (pagesFor size)
+  pub pages : (classOf size ≡ 0 → (5 ≤ pagesFor size) × (pagesFor size ≤ 128)) × (classOf size ≢ 0 → pagesFor size ≡ classPages (classOf size))
+  pub pointers : p ≤ elementWordsOf (classOf size) (pagesFor size)
+
+pub takes : (size p : ℕ) → size ≢ 0 → size ≤ 1048576 → p ≤ size / 8 → Takes size p
+takes size p d l m = go (ltb 32768 size) refl
+  where
+    bit : (b : Bool) (c : ℕ) → c ≤ 66 → (2 * c + cond b 1 0 < 134) × ((2 * c + cond b 1 0) / 2 ≡ c) × ((2 * c + cond b 1 0) % 2 ≡ cond b 1 0)
+    bit true c h = (omega arith, omega arith, omega arith)
+    bit false c h = (omega arith, omega arith, omega arith)
+
+    scan : (c : ℕ) → (2 * c + cond (eqb p 0) 1 0) % 2 ≡ cond (eqb p 0) 1 0 → ((2 * c + cond (eqb p 0) 1 0) % 2 == 0) ≡ ltb 0 p
+    scan c e = rw e (go (eqb p 0) refl)
+      where
+        go : (b : Bool) → eqb p 0 ≡ b → eqb (cond b 1 0) 0 ≡ ltb 0 p
+        go true q = rw (eqb-true p 0 q)
+        go false q = sym (lt-ltb 0 p (omega (arith, eqb-false p 0 q)))
+
+    kind : (c : ℕ) → classOf size ≡ c → kindOf size p ≡ 2 * c + cond (eqb p 0) 1 0
+    kind c e = unfold kindOf in rw e
+
+    go : (b : Bool) → ltb 32768 size ≡ b → Takes size p
+    go true e =
+        let h = ltb-true 32768 size e in
+        let c = large-class size e in
+        let n = large-pages size c in
+        let k = bit (eqb p 0) 0 (omega arith) in
+        record {
+          kind = rw (kind 0 c) (k .0);
+          class = rw (kind 0 c, c) (k .1);
+          scan = rw (kind 0 c) (scan 0 (k .2));
+          fits = rw c (large-fits (pagesFor size) (omega arith) (omega arith));
+          pages = (λ _. (omega arith, omega arith), λ z. absurd (z c));
+          pointers = rw (c, large-words (pagesFor size)) (omega arith);
+        }
+    go false e =
+        let s = small-class size (ltb-false 32768 size e) in
+        let n = small-pages size (s .low) in
+        let k = bit (eqb p 0) (classOf size) (s .high) in
+        record {
+          kind = rw (kind (classOf size) refl) (k .0);
+          class = rw (kind (classOf size) refl) (k .1);
+          scan = rw (kind (classOf size) refl) (scan (classOf size) (k .2));
+          fits = rw n (small-fits (classOf size) (s .low) (s .high));
+          pages = (λ z. absurd (s .low z), λ _. n);
+          pointers = rw (small-words (classOf size) (pagesFor size) (s .low)) (omega (arith, s .bytes));
+        }

@@ -1,0 +1,156 @@
+-- What the calls leave, part by part: the barrier, a birth, a sweep step, the span that has room, an allocation, a start and a scan. Demand 3 cites
+-- these laws; a wrong rule breaks one of them (proofs/Tempting.antt says which fact about words it loses).
+use Prim.Native.Nat.{ℕ, _+_, _-_, _*_, _%_, _<_, _≤_}
+use mathlib.Core.Bool.{Bool, true, false, cond, _&&_}
+use mathlib.Core.List.{List}
+use mathlib.Core.Path.{_≡_, refl, _∙_}
+use native.Mathlib.Omega.{arith}
+use lib.ListN.{length, set}
+use lib.Dec.{T, eqb}
+use Rattle.model.specs.Memory.{Heap, lent, withRoots, putWords, root, slot, slotAt, stateAt, addressOf, phase}
+use Rattle.model.specs.Answers.{outcome, _orElse_}
+use Rattle.model.specs.Checks.{phaseIsNot, notOpen}
+use Rattle.model.specs.Classes.{classOf, kindOf, pagesFor, elementWordsOf}
+use Rattle.model.specs.declared.Answer.the-variants.{Done, Value}
+use Rattle.model.specs.Bitmaps.{Part, allocated, marked, pointer, is, putBit, putBits}
+use Rattle.model.specs.Spans.{pageCount, kindEntry, elements, elementStart, elementNumber, freePage, spanPage, putPage, putPages}
+use Rattle.model.specs.Shading.{shade, barrier}
+use Rattle.model.specs.Allocate.{freeElement, hasRoom, newBits, newTable, newWord, allocateRefusal, allocate}
+use Rattle.model.specs.Cycle.{sweptBits, sweptTable, nothingLeft, start, scanStack, scanOutcome}
+use Rattle.model.proofs.Rules.{tests}
+use Rattle.model.proofs.Bounded.{within}
+use Rattle.model.proofs.Bitmaps.{Four, samePart, part-at, part-run, part-length, run-length}
+use Rattle.model.proofs.Spans.{IsSpan, startIn}
+use Rattle.model.proofs.Facts.{Sized, bit, four}
+
+-- the barrier: in the mark phase the old value is shaded, then the new; in any other nothing is
+pub barrier-is : (h : Heap) (old new : ℕ) →
+    barrier h old new ≡ cond (eqb (phase h) 1) (shade (h .pages) (h .table) new (shade (h .pages) (h .table) old (h .bits))) (h .bits)
+unfolding barrier
+barrier-is h old new = refl
+
+-- the bits after the birth of a record of p pointers at word w
+module _ (h : Heap) (w p : ℕ) (Z : Sized h) (hw : w < 1024 * h .pages) (l : w + p ≤ 1024 * h .pages) where
+  abbrev N : ℕ
+  N = 1024 * h .pages
+
+  abbrev b₀ : List ℕ
+  b₀ = putBit (1024 * h .pages) allocated w true (h .bits)
+
+  abbrev b₁ : List ℕ
+  b₁ = putBits (1024 * h .pages) pointer w p (λ v. true) (putBit (1024 * h .pages) allocated w true (h .bits))
+
+  len₁ : length b₁ ≡ length (h .bits)
+  len₁ = run-length N pointer w p (λ v. true) b₀ ∙ part-length N allocated w true (h .bits)
+
+  pub new-length : length (newBits h w p) ≡ length (h .bits)
+  unfolding newBits
+  new-length = go (eqb (phase h) 1)
+    where
+      go : (m : Bool) → length (cond m (putBit N marked w true b₁) b₁) ≡ length (h .bits)
+      go true = part-length N marked w true b₁ ∙ len₁
+      go false = len₁
+
+  pub new-at : (q : Part) (v : ℕ) → bit (h .pages) q (newBits h w p) v ≡
+      cond (eqb (phase h) 1 && (samePart q marked && eqb v w)) true
+      (cond (samePart q pointer && within w p v) true (cond (samePart q allocated && eqb v w) true (is q h v)))
+  unfolding newBits
+  new-at q v = go (eqb (phase h) 1)
+    where
+      f₀ : Four N b₀
+      f₀ = rw (part-length N allocated w true (h .bits)) (four h Z)
+
+      f₁ : Four N b₁
+      f₁ = rw len₁ (four h Z)
+
+      e : bit (h .pages) q b₁ v ≡ cond (samePart q pointer && within w p v) true (cond (samePart q allocated && eqb v w) true (is q h v))
+      e = rw (part-run N pointer w p (λ v. true) b₀ l f₀ q v, part-at N q allocated w true (h .bits) hw (four h Z) v)
+
+      go : (m : Bool) → bit (h .pages) q (cond m (putBit N marked w true b₁) b₁) v ≡
+          cond (m && (samePart q marked && eqb v w)) true (cond (samePart q pointer && within w p v) true (cond (samePart q allocated && eqb v w) true (is q h v)))
+      go true = rw (part-at N q marked w true b₁ hw f₁ v, e)
+      go false = e
+
+-- the bits after the span at page s was swept
+module _ (h : Heap) (Z : Sized h) (s : ℕ) (l : s + pageCount (h .table) s ≤ h .pages) where
+  -- over the span's words: marks cleared, allocated set to m, pointers set to g
+  abbrev three : (ℕ → Bool) → (ℕ → Bool) → List ℕ
+  three m g =
+      let N = 1024 * h .pages in
+      let n = 1024 * pageCount (h .table) s in
+      putBits N marked (1024 * s) n (λ w. false) (putBits N allocated (1024 * s) n m (putBits N pointer (1024 * s) n g (h .bits)))
+
+  -- a pointer bit stays where its element is marked
+  abbrev stays : ℕ → Bool
+  stays = λ w. is pointer h w && is marked h (elementStart (h .table) s (elementNumber (h .table) s w))
+
+  three-at : (m g : ℕ → Bool) (q : Part) (v : ℕ) → let d = within (1024 * s) (1024 * pageCount (h .table) s) v in bit (h .pages) q (three m g) v ≡
+      cond (samePart q marked && d) false (cond (samePart q allocated && d) (m v) (cond (samePart q pointer && d) (g v) (is q h v)))
+  three-at m g q v = rw (
+    part-run N marked (1024 * s) n (λ w. false) b₀ e f₀ q v,
+    part-run N allocated (1024 * s) n m b₃ e f₃ q v,
+    part-run N pointer (1024 * s) n g (h .bits) e (four h Z) q v,
+  )
+    where
+      N : ℕ
+      N = 1024 * h .pages
+
+      n : ℕ
+      n = 1024 * pageCount (h .table) s
+
+      e : 1024 * s + n ≤ N
+      e = omega arith
+
+      b₃ : List ℕ
+      b₃ = putBits N pointer (1024 * s) n g (h .bits)
+
+      f₃ : Four N b₃
+      f₃ = rw (run-length N pointer (1024 * s) n g (h .bits)) (four h Z)
+
+      b₀ : List ℕ
+      b₀ = putBits N allocated (1024 * s) n m b₃
+
+      f₀ : Four N b₀
+      f₀ = rw (run-length N allocated (1024 * s) n m b₃) f₃
+
+  three-length : (m g : ℕ → Bool) → length (three m g) ≡ length (h .bits)
+  three-length m g = simp run-length
+
+  pub swept-at : (q : Part) (v : ℕ) → let d = within (1024 * s) (1024 * pageCount (h .table) s) v in bit (h .pages) q (sweptBits h s) v ≡
+      cond (samePart q marked && d) false (cond (samePart q allocated && d) (is marked h v)
+      (cond (samePart q pointer && d) (is pointer h v && is marked h (startIn (h .table) s v)) (is q h v)))
+  unfolding sweptBits
+  swept-at q v = three-at (is marked h) stays q v
+
+  pub swept-length : length (sweptBits h s) ≡ length (h .bits)
+  unfolding sweptBits
+  swept-length = three-length (is marked h) stays
+
+-- the page table after it: the span's pages are free if nothing is left, else its first page loses the flag
+pub swept-table : (h : Heap) (s : ℕ) → sweptTable h s ≡
+    cond (nothingLeft h s) (putPages s (pageCount (h .table) s) (λ g. freePage) (h .table))
+    (putPage s (spanPage s (pageCount (h .table) s) (kindEntry (h .table) s % 256) s) (h .table))
+unfolding sweptTable
+swept-table h s = refl
+
+-- a span with room for a kind: its entry is the kind, with no flag, and an element is free
+pub room-is : (h : Heap) (kind s : ℕ) → T (hasRoom h kind s) → IsSpan (h .table) s × (kindEntry (h .table) s ≡ kind) × (freeElement h s < elements (h .table) s)
+room-is h kind s ok = let x = simp tests at ok in (x .0 .0, x .0 .1, x .1)
+
+-- an allocation, a start and a scan of a stack, written out
+pub allocate-is : (h : Heap) (s i size p : ℕ) →
+    let w = newWord h (kindOf size p) (pagesFor size) in
+    let done = lent (h .pages) (putWords w (elementWordsOf (classOf size) (pagesFor size)) (λ v. 0) (h .arena)) (newTable h (kindOf size p) (pagesFor size))
+    (newBits h w p) (set (h .roots) (slotAt s i) (addressOf w)) in
+    allocate h s i size p ≡ outcome (allocateRefusal h s i size p) h (Value (addressOf w)) done
+unfolding allocate
+allocate-is h s i size p = refl
+
+pub start-is : (h : Heap) →
+    start h ≡ outcome (phaseIsNot h 0) h Done (withRoots (set (set (putWords 544 16 (λ i. cond (eqb (root h i) 0) 0 2) (h .roots)) 560 2) 561 1) h)
+unfolding start
+start-is h = refl
+
+pub scan-stack-is : (h : Heap) (s : ℕ) → scanStack h s ≡ scanOutcome (phaseIsNot h 1 orElse notOpen h s) 32 (slot h s) (stateAt s) h
+unfolding scanStack
+scan-stack-is h s = refl

@@ -1,0 +1,158 @@
+-- What an audit that says yes says, as facts: small records, each over only what it reads, so that a call that changes one buffer keeps the
+-- others by name. `Audited` joins them; proofs/Audit.antt turns the test into them and back.
+use Prim.Native.Nat.{ℕ, zero, suc, _+_, _-_, _*_, _/_, _%_, _<_, _≤_}
+use mathlib.Core.Bool.{Bool, true, false, not, cond, _&&_, true≢false}
+use mathlib.Core.List.{List}
+use mathlib.Core.Logic.{_⊎_, inl, inr, _≢_}
+use mathlib.Core.Path.{_≡_, refl, sym, _∙_, ap}
+use native.Mathlib.Omega.{arith}
+use lib.ListN.{getD, length}
+use lib.Dec.{T, eqb, ltb, leb}
+use borrow.Author.Tests.{ltb-true, lt-leb, leb-true}
+use Rattle.model.specs.Memory.{Heap, wordOf, addressOf}
+use Rattle.model.specs.Bitmaps.{Part, allocated, marked, gray, pointer, bitIn, is}
+use Rattle.model.specs.Spans.{owner, pageCount, kindEntry, isScan, isUnswept, spanOf, elementOf, elements, elementStart, elementWords, pointerCount, kept}
+use Rattle.model.proofs.Tests.{of-true, of-false, is-true}
+use Rattle.model.proofs.Bounded.{First, first-props, first-is}
+use Rattle.model.proofs.Bitmaps.{Four, bit-inside}
+use Rattle.model.proofs.Spans.{Spans, IsSpan, InElement, Element, span-of, at-home, in-span, own-word, whole}
+
+-- the four lengths, and P
+pub record Sized (h : Heap) : Type 0 where
+  pub low : 1 ≤ h .pages
+  pub high : h .pages ≤ 256
+  pub arena : length (h .arena) ≡ 1024 * h .pages
+  pub table : length (h .table) ≡ 3 * h .pages
+  pub bits : length (h .bits) ≡ 64 * h .pages
+  pub roots : length (h .roots) ≡ 562
+
+pub four : (h : Heap) → Sized h → Four (1024 * h .pages) (h .bits)
+four h Z = omega (arith, Z .bits)
+
+-- the bit of word w in a part of the bitmaps of P pages
+abbrev pub bit : ℕ → Part → List ℕ → ℕ → Bool
+bit P q b w = bitIn (1024 * P) q b w
+
+-- the span of word w is a scan span, is unswept
+abbrev pub scanAt : List ℕ → ℕ → Bool
+scanAt t w = isScan t (spanOf t w)
+
+abbrev pub unsweptAt : List ℕ → ℕ → Bool
+unsweptAt t w = isUnswept t (spanOf t w)
+
+-- the bits, word by word
+pub record Bits (P : ℕ) (t b : List ℕ) : Type 0 where
+  pub element : (w : ℕ) → T (bit P allocated b w) → Element t w
+  pub marks : (w : ℕ) → T (bit P marked b w) → T (bit P allocated b w)
+  pub grays : (w : ℕ) → T (bit P gray b w) → T (bit P marked b w) × T (scanAt t w)
+  pub pointers : (w : ℕ) → T (bit P pointer b w) → InElement t w × T (scanAt t w) × T (bit P allocated b (elementOf t w))
+  pub head : (w : ℕ) → T (bit P allocated b w) → T (scanAt t w) → T (bit P pointer b w)
+  pub run : (w : ℕ) → T (bit P pointer b w) → elementOf t w ≢ w → T (bit P pointer b (w - 1))
+
+-- what depends on the phase
+pub record Phases (P ph : ℕ) (t b : List ℕ) : Type 0 where
+  pub none : ph ≡ 0 → (w : ℕ) → bit P marked b w ≡ false
+  pub swept : ph ≢ 2 → (s : ℕ) → IsSpan t s → kindEntry t s < 256
+  pub plain : ph ≢ 1 → (w : ℕ) → bit P gray b w ≡ false
+  pub unswept : ph ≡ 2 → (w : ℕ) → T (bit P marked b w) → T (unsweptAt t w)
+
+-- "Kept means marked in an unswept span, allocated elsewhere."
+abbrev pub keptAt : ℕ → List ℕ → List ℕ → ℕ → Bool
+keptAt P t b w = cond (unsweptAt t w) (bit P marked b w) (bit P allocated b w)
+
+-- "nil or the address of a kept element"
+abbrev pub Reference : ℕ → List ℕ → List ℕ → ℕ → Type 0
+Reference P t b v = (v ≡ 0) ⊎ ((v ≡ addressOf (wordOf v)) × T (keptAt P t b (wordOf v)))
+
+pub record References (h : Heap) : Type 0 where
+  pub root : (i : ℕ) → i < 544 → Reference (h .pages) (h .table) (h .bits) (getD (h .roots) i 0)
+  pub content : (w : ℕ) → T (is pointer h w) → T (kept h (elementOf (h .table) w)) → Reference (h .pages) (h .table) (h .bits) (getD (h .arena) w 0)
+
+-- the states and the phase
+pub record States (r : List ℕ) : Type 0 where
+  pub phase : getD r 561 0 ≤ 2
+  pub legal : (s : ℕ) → s < 16 → (getD r (544 + s) 0 ≤ 2) × (getD r (544 + s) 0 ≡ 2 → getD r 561 0 ≡ 1)
+  pub globals : (1 ≤ getD r 560 0) × (getD r 560 0 ≤ 2) × (getD r 560 0 ≡ 2 → getD r 561 0 ≡ 1)
+  pub closed : (s i : ℕ) → s < 16 → i < 32 → getD r (544 + s) 0 ≡ 0 → getD r (32 * s + i) 0 ≡ 0
+
+-- "at least one [allocated] per span"
+abbrev pub Occupied : ℕ → List ℕ → List ℕ → Type 0
+Occupied P t b = (s : ℕ) → IsSpan t s → (w : ℕ) × T (bit P allocated b w) × (spanOf t w ≡ s)
+
+pub record Audited (h : Heap) : Type 0 where
+  pub sized : Sized h
+  pub spans : Spans (h .pages) (h .table)
+  pub bits : Bits (h .pages) (h .table) (h .bits)
+  pub phases : Phases (h .pages) (getD (h .roots) 561 0) (h .table) (h .bits)
+  pub references : References h
+  pub states : States (h .roots)
+  pub occupied : Occupied (h .pages) (h .table) (h .bits)
+
+-- no span is unswept
+pub swept-all : {P : ℕ} {t : List ℕ} → Spans P t → ((s : ℕ) → IsSpan t s → kindEntry t s < 256) → (g : ℕ) → isUnswept t g ≡ false
+swept-all {P} {t} F Q g = go (eqb (owner t g) (g + 1)) refl
+  where
+    go : (b : Bool) → eqb (owner t g) (g + 1) ≡ b → leb 256 (kindEntry t g) ≡ false
+    go true e = lt-leb 256 (kindEntry t g) (Q g (borrow.Author.Tests.eqb-true (owner t g) (g + 1) e))
+    go false e = lt-leb 256 (kindEntry t g) (omega (arith, F .rest g (borrow.Author.Tests.eqb-false (owner t g) (g + 1) e)))
+
+-- none is but in the sweep phase
+pub not-unswept : {P ph : ℕ} {t b : List ℕ} → Spans P t → Phases P ph t b → ph ≢ 2 → (g : ℕ) → isUnswept t g ≡ false
+not-unswept F Q d = swept-all F (Q .swept d)
+
+-- what is kept is allocated
+pub kept-allocated : {P : ℕ} {t b : List ℕ} → Bits P t b → (w : ℕ) → T (keptAt P t b w) → T (bit P allocated b w)
+kept-allocated {P} {t} {b} C w = go (unsweptAt t w)
+  where
+    go : (c : Bool) → T (cond c (bit P marked b w) (bit P allocated b w)) → T (bit P allocated b w)
+    go true m = C .marks w m
+    go false a = a
+
+-- a reference that is not nil names a kept element, and so a word of the arena
+pub named : {P : ℕ} {t b : List ℕ} → Bits P t b → (v : ℕ) → v ≢ 0 → Reference P t b v → T (bit P allocated b (wordOf v)) × T (keptAt P t b (wordOf v)) × (wordOf v < 1024 * P)
+named C v d (inl e) = absurd (d e)
+named {P} {t} {b} C v d (inr f) =
+    let a = kept-allocated C (wordOf v) (f .1) in
+    (a, f .1, bit-inside (1024 * P) allocated b (wordOf v) a)
+
+-- nil, or the address of a word of the arena
+abbrev pub There : ℕ → ℕ → Type 0
+There P v = v ≢ 0 → wordOf v < 1024 * P
+
+pub reference-there : {P : ℕ} {t b : List ℕ} → Bits P t b → (v : ℕ) → Reference P t b v → There P v
+reference-there C v r d = named C v d r .2
+
+-- the pointer words of a kept element hold references
+pub pointer-word : {h : Heap} → Audited h → (w : ℕ) → T (is allocated h w) → T (kept h w) → (f : ℕ) → f < pointerCount h w →
+    T (is pointer h (w + f)) × Reference (h .pages) (h .table) (h .bits) (getD (h .arena) (w + f) 0)
+pointer-word {h} F w a kp f l =
+    let R = first-props (elementWords (h .table) (spanOf (h .table) w)) (λ k. not (is pointer h (w + k))) in
+    let p = is-true _ (borrow.Author.Tests.not-false (is pointer h (w + f)) (R .before f l)) in
+    let o = own-word (F .spans) w f (F .bits .element w a) (omega (arith, R .within)) in
+    (p, F .references .content (w + f) p (rw (o .0) kp))
+
+-- no pointer bit stands in an element behind its first run
+pub no-pointer : {P : ℕ} {t b : List ℕ} → Spans P t → Bits P t b → (w : ℕ) → Element t w → (f : ℕ) →
+    let n = elementWords t (spanOf t w) in Rattle.model.specs.Bounded.firstBelow n (λ k. not (bit P pointer b (w + k))) ≤ f → f < n → bit P pointer b (w + f) ≡ false
+no-pointer {P} {t} {b} F C w E zero l m =
+    let n = elementWords t (spanOf t w) in
+    let f = first-props n (λ k. not (bit P pointer b (w + k))) in
+    let z : Rattle.model.specs.Bounded.firstBelow n (λ k. not (bit P pointer b (w + k))) ≡ 0 = omega arith in
+    borrow.Author.Tests.not-true (bit P pointer b (w + 0)) (rw z at (f .holds (omega arith)))
+no-pointer {P} {t} {b} F C w E (suc f) l m = go (ltb f R) refl (bit P pointer b (w + suc f)) refl (λ k. no-pointer F C w E f k (omega arith))
+  where
+    n : ℕ
+    n = elementWords t (spanOf t w)
+
+    R : ℕ
+    R = Rattle.model.specs.Bounded.firstBelow (elementWords t (spanOf t w)) (λ k. not (bit P pointer b (w + k)))
+
+    go : (c : Bool) → ltb f R ≡ c → (d : Bool) → bit P pointer b (w + suc f) ≡ d → (R ≤ f → bit P pointer b (w + f) ≡ false) → bit P pointer b (w + suc f) ≡ false
+    go c e false x ih = x
+    go true e true x ih =
+        let q : R ≡ suc f = omega (arith, ltb-true f R e) in
+        borrow.Author.Tests.not-true (bit P pointer b (w + suc f)) (rw q at (first-props n (λ k. not (bit P pointer b (w + k))) .holds (omega arith)))
+    go false e true x ih =
+        let o = own-word F w (suc f) E m .0 in
+        let z : w + suc f - 1 ≡ w + f = omega arith in
+        absurd (true≢false (sym (of-true _ (rw z at (C .run (w + suc f) (is-true _ x) (omega (arith, o))))) ∙ ih (borrow.Author.Tests.ltb-false f R e)))

@@ -1,0 +1,16 @@
+pub mod Tests
+pub mod Answers
+pub mod Bounded
+pub mod Words
+pub mod Bitmaps
+pub mod Table
+pub mod Rules
+pub mod Classes
+pub mod Spans
+pub mod Facts
+pub mod Audit
+pub mod Checks
+pub mod Shading
+pub mod Outcomes
+pub mod Effects
+pub mod Tempting

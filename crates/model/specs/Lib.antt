@@ -1,0 +1,14 @@
+pub mod Bounded
+pub mod Memory
+pub mod Bitmaps
+pub mod Answers
+pub mod Classes
+pub mod Spans
+pub mod Checks
+pub mod Allocate
+pub mod Shading
+pub mod Records
+pub mod Cycle
+pub mod Audit
+pub mod Calls
+pub mod Cases

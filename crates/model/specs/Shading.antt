@@ -1,0 +1,33 @@
+-- Shading and the barrier. Shading changes the bitmaps alone: here they go in and come out, for a heap of p pages and page table t.
+use Prim.Native.Nat.{ℕ, _*_}
+use mathlib.Core.Bool.{Bool, true, _&&_, not, cond}
+use mathlib.Core.List.{List}
+use Rattle.model.specs.Bounded.{_==_, if_then_else_, countBelow, foldBelow}
+use Rattle.model.specs.Memory.{Heap, pageWords, nil, recordOf, phase, mark}
+use Rattle.model.specs.Bitmaps.{bitIn, putBit, marked, gray}
+use Rattle.model.specs.Spans.{isScan, spanOf}
+
+-- the value names a record that is not marked
+abbrev pub isWhite : ℕ → ℕ → List ℕ → Bool
+isWhite p v b = not (v == nil) && not (bitIn (pageWords * p) marked b (recordOf v))
+
+-- "Shading nil or a marked record does nothing; a white record is marked, and made gray if its span is scan."
+unfoldable pub shade : ℕ → List ℕ → ℕ → List ℕ → List ℕ
+shade p t v b =
+    let w = recordOf v in
+    let black = putBit (pageWords * p) marked w true b in
+    if isWhite p v b then (if isScan t (spanOf t w) then putBit (pageWords * p) gray w true black else black)
+    else b
+
+-- the first n of the values shaded, in order
+unfoldable pub shadeAll : ℕ → List ℕ → ℕ → (ℕ → ℕ) → List ℕ → List ℕ
+shadeAll p t n value b = foldBelow n (λ i. shade p t (value i)) b
+
+-- how many mark bits that turns on: the values that are white when their turn comes
+unfoldable pub shadeCount : ℕ → List ℕ → ℕ → (ℕ → ℕ) → List ℕ → ℕ
+shadeCount p t n value b = countBelow n (λ i. isWhite p (value i) (shadeAll p t i value b))
+
+-- "in the mark phase, a store to a record or a global first shades the old value, then the new"
+unfoldable pub barrier : Heap → ℕ → ℕ → List ℕ
+barrier h old new =
+    if phase h == mark then shade (h .pages) (h .table) new (shade (h .pages) (h .table) old (h .bits)) else h .bits
