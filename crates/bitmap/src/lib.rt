@@ -1,0 +1,113 @@
+// One lent list of 64-bit words, read and written by bit number, lowest bit first: a bit is
+// tested, set and cleared, and two searches go through the list a word at a time. A search masks
+// a word to the bits that it asks for, and the word's trailing zeros are then the number of the
+// lowest that is set. Callers add the offset of the part of the bitmaps that they mean.
+ghost use mathlib.Core.Path.{_≡_};
+ghost use mathlib.Core.Bool.{true, false, not};
+ghost use Prim.Native.Nat.{_+_, _-_, _*_, _/_, _%_, _<_, _≤_, min};
+ghost use lib.ListN.{length};
+ghost use Rattle.model.specs.Bounded.{firstBelow};
+ghost use Rattle.model.specs.Bitmaps.{bitAt, withBit};
+ghost use Rattle.bitmap.specs.Starts.{Elements};
+use units::ALL_BITS;
+
+// Bit `i`.
+pub fn test(ws: &[u64], i: usize) -> bool
+    requires { ⌜ i / 64 < length (now ws) ⌝ }
+    ensures { λ r. ⌜ r ≡ bitAt (now (ws .entry)) i ⌝ }
+{
+    (ws[i / 64] >> (i % 64)) % 2 == 1
+}
+
+// Bit `i` turned on.
+pub fn set(ws: &mut [u64], i: usize)
+    requires { ⌜ i / 64 < length (now ws) ⌝ }
+    ensures { λ r. ⌜ now (ws .exit) ≡ withBit i true (now (ws .entry)) ⌝ }
+{
+    let at = i / 64;
+    ws[at] = ws[at] | (1u64 << (i % 64));
+}
+
+// Bit `i` turned off.
+pub fn clear(ws: &mut [u64], i: usize)
+    requires { ⌜ i / 64 < length (now ws) ⌝ }
+    ensures { λ r. ⌜ now (ws .exit) ≡ withBit i false (now (ws .entry)) ⌝ }
+{
+    let at = i / 64;
+    ws[at] = ws[at] & !(1u64 << (i % 64));
+}
+
+// The lower of two numbers.
+fn lower(a: usize, b: usize) -> usize
+    ensures { λ r. ⌜ r ≡ min a b ⌝ }
+{
+    if a < b { a } else { b }
+}
+
+// How many words hold the bits below `end`.
+fn words_below(end: usize) -> usize
+    ensures { λ r. ⌜ r ≡ (end + 63) / 64 ⌝ }
+{
+    if end % 64 == 0 {
+        end / 64
+    } else {
+        end / 64 + 1
+    }
+}
+
+// The lowest set bit at or after `from` and below `to`, or `to`.
+pub fn first_set(ws: &[u64], from: usize, to: usize) -> usize
+    requires { ⌜ (from ≤ to) × (to ≤ 64 * length (now ws)) ⌝ }
+    ensures { λ r. ⌜ r ≡ from + firstBelow (to - from) (λ k. bitAt (now (ws .entry)) (from + k)) ⌝ }
+{
+    let end = words_below(to);
+    let mut at = from / 64;
+    // the bits of the word from `from` on: all of them, in any word but the first
+    let mut mask = ALL_BITS << (from % 64);
+    while at < end {
+        let found = u64::trailing_zeros(ws[at] & mask);
+        if found < 64 {
+            return lower(at * 64 + found as usize, to);
+        }
+        at += 1;
+        mask = ALL_BITS;
+    }
+    to
+}
+
+// Where the first element after a word starts, counted from the word's end, if the lowest start in
+// the word is its bit `off`. `rest` is what 64 bits leave over whole elements.
+pub fn next_start(size: usize, rest: usize, off: usize) -> usize
+    requires { ⌜ (off < size) × (rest ≡ 64 % size) ⌝ }
+    ensures { λ r. ⌜ (r < size) × ((r + 64) % size ≡ off) ⌝ }
+{
+    if off < rest {
+        off + (size - rest)
+    } else {
+        off - rest
+    }
+}
+
+// The lowest free one of `count` elements, or `count`. Element k starts at bit `first` + k * `size`
+// and is free if that bit is clear; its other bits do not count. `starts` has the bits at which
+// elements start in a word whose lowest bit starts one. Words in which none starts are passed over.
+pub fn first_free(ws: &[u64], first: usize, size: usize, count: usize, starts: u64) -> usize
+    requires { ⌜ Elements (now ws) first size count starts ⌝ }
+    ensures { λ r. ⌜ r ≡ firstBelow count (λ k. not (bitAt (now (ws .entry)) (first + k * size))) ⌝ }
+{
+    let end = words_below(first + count * size);
+    let rest = 64 % size;
+    let mut at = first / 64;
+    // the lowest start in the word
+    let mut off = 0;
+    while at < end {
+        let free = u64::trailing_zeros(!ws[at] & (starts << off));
+        if free < 64 {
+            return lower((at * 64 + free as usize - first) / size, count);
+        }
+        let next = next_start(size, rest, off);
+        at += 1 + next / 64;
+        off = next % 64;
+    }
+    count
+}

@@ -1,0 +1,4 @@
+pub mod Runs
+pub mod Bits
+pub mod Ranges
+pub mod Parts

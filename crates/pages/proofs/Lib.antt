@@ -1,0 +1,5 @@
+pub mod Allocate
+pub mod Entries
+pub mod Flags
+pub mod Runs
+pub mod Unswept

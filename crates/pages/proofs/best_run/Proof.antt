@@ -1,0 +1,80 @@
+-- The invariant: the best of the runs that start below page g is known.
+use Prim.Native.Nat.{_-_}
+use native.Mathlib.Omega.{arith}
+use Rattle.model.proofs.Tests.{clash}
+use Rattle.pages.proofs.Allocate.{run-within}
+use Rattle.pages.proofs.Runs.{SoFar, none-yet, worse, better, too-short, ended}
+use borrow.Author.Needs.{needs}
+use Rattle.pages.proofs.best_run.Statement.{statement}
+use Rattle.pages.proofs.best_run.Tie as tie
+
+abbrev Inv-loop : tie.InvT-loop
+Inv-loop p table n g₀ best₀ least₀ g best least = SoFar p table n g best least
+
+abbrev μ-loop : tie.MeasureT-loop
+μ-loop p table n g₀ best₀ least₀ g best least = p - g
+
+add-least : tie.Need-add-least Inv-loop μ-loop
+add-least c = search needs
+
+loop-holds : tie.Need-loop-holds Inv-loop μ-loop
+loop-holds c = none-yet _ _ _
+
+run-length-requires : tie.Need-run-length-requires Inv-loop μ-loop
+run-length-requires c κs = search needs
+
+add-g : tie.Need-add-g Inv-loop μ-loop
+add-g c =
+    let a = c .before .before .before .before .args in
+    omega (arith, run-within (a .p) (a .table .now) (c .before .before .loop .g))
+
+add-g-2 : tie.Need-add-g-2 Inv-loop μ-loop
+add-g-2 c =
+    let a = c .before .before .before .before .args in
+    omega (arith, run-within (a .p) (a .table .now) (c .before .before .loop .g))
+
+loop-less : tie.Need-loop-less Inv-loop μ-loop
+loop-less c = omega arith
+
+loop-again : tie.Need-loop-again Inv-loop μ-loop
+loop-again c =
+    let l = c .before .before .before .before .loop in
+    rw (c .before .before .run-length .ensures) (better _ _ _ _ _ _ (l .inv) (search needs) (search needs) (omega arith) (omega arith))
+
+loop-less-2 : tie.Need-loop-less-2 Inv-loop μ-loop
+loop-less-2 c = omega arith
+
+loop-again-2 : tie.Need-loop-again-2 Inv-loop μ-loop
+loop-again-2 c =
+    let l = c .before .before .before .before .loop in
+    rw (c .before .before .run-length .ensures) (worse _ _ _ _ _ _ (l .inv) (λ _. omega arith))
+
+loop-less-3 : tie.Need-loop-less-3 Inv-loop μ-loop
+loop-less-3 c = omega arith
+
+loop-again-3 : tie.Need-loop-again-3 Inv-loop μ-loop
+loop-again-3 c =
+    let l = c .before .before .before .loop in
+    rw (c .before .run-length .ensures) (worse _ _ _ _ _ _ (l .inv) (λ r. clash _ r (too-short _ _ _ _ (omega arith))))
+
+returns : tie.Need-returns Inv-loop μ-loop
+returns c = ended _ _ _ _ _ _ (c .loop-test .left) (c .before .loop .inv)
+
+pub best-run-spec : {M : Type 1} → statement M
+best-run-spec =
+    tie.close
+    (tie.spec
+    Inv-loop
+    μ-loop
+    add-least
+    loop-holds
+    run-length-requires
+    add-g
+    add-g-2
+    loop-less
+    loop-again
+    loop-less-2
+    loop-again-2
+    loop-less-3
+    loop-again-3
+    returns)
