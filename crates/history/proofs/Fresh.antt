@@ -1,0 +1,111 @@
+-- Setup: the fresh heap passes the audit, and its view is the theory's fresh heap.
+use Prim.Native.Nat.{ℕ, _+_, _-_, _*_, _/_, _%_, _^_}
+use mathlib.Core.List.{List}
+use mathlib.Core.Bool.{Bool, true, false, not, cond, _&&_, and-false, true≢false}
+use mathlib.Core.Logic.{inl, _≢_}
+use mathlib.Core.Path.{_≡_, refl, ap, sym, _∙_}
+use native.Mathlib.Omega.{arith}
+use native.Mathlib.Nat.{zero-div}
+use lib.ListN.{getD, set, length-set, replicate, length-replicate, getD-replicate, List·getD-eq-default}
+use lib.Dec.{T, eqb, ltb}
+use borrow.Author.Tests.{ltb-true, ltb-false, ne-eqb}
+use Rattle.marking.specs.Trace.{Fresh}
+use Rattle.model.specs.Memory.{Heap}
+use Rattle.model.specs.Bitmaps.{Part, allocated, marked, gray, pointer, bitIn, bitAt, bitOf, place}
+use Rattle.model.specs.Spans.{owner, pageCount, kindEntry}
+use Rattle.model.specs.Records.{fresh}
+use Rattle.model.proofs.Tests.{of-true}
+use Rattle.model.proofs.Words.{set-at}
+use Rattle.model.proofs.Facts.{Audited, Sized}
+use Rattle.history.proofs.View.{view, phaseOf}
+
+abbrev zeros : ℕ → List ℕ
+zeros n = replicate n 0
+
+zero-at : (n i : ℕ) → getD (zeros n) i 0 ≡ 0
+zero-at n i = go (ltb i n) refl
+  where
+    go : (b : Bool) → ltb i n ≡ b → getD (zeros n) i 0 ≡ 0
+    go true e = getD-replicate n i 0 0 (ltb-true i n e)
+    go false e = List·getD-eq-default (zeros n) 0 (rw (length-replicate {A = ℕ} n 0) (ltb-false i n e))
+
+no-bit : (n m : ℕ) (q : Part) (w : ℕ) → bitIn n q (zeros m) w ≡ false
+unfolding bitIn bitAt bitOf
+no-bit n m q w = rw (zero-at m (place n q w / 64), zero-div (2 ^ (place n q w % 64))) (and-false (ltb w n))
+
+root-is : (x : ℕ) → getD (set (zeros 562) 560 1) x 0 ≡ cond (eqb x 560) 1 0
+root-is x = rw (set-at (zeros 562) 560 1 (rw (length-replicate {A = ℕ} 562 0) (omega arith)) x, zero-at 562 x)
+
+root-nil : (x : ℕ) → x ≢ 560 → getD (set (zeros 562) 560 1) x 0 ≡ 0
+root-nil x d = rw (root-is x, ne-eqb x 560 d)
+
+pub fresh-view : (h : Heap) → Fresh (view (fresh h))
+unfolding view fresh
+fresh-view h = record {
+  allocated = λ w. no-bit (1024 * h .pages) (64 * h .pages) allocated w;
+  slots = λ t i. slots t i (ltb t 16) refl (ltb i 32) refl;
+  globals = λ g. globals g (ltb g 32) refl;
+  opened = λ t. opened t (ltb t 16) refl;
+  phase = ap phaseOf (root-is 561);
+}
+  where
+    r : List ℕ
+    r = set (zeros 562) 560 1
+
+    slots : (t i : ℕ) (a : Bool) → ltb t 16 ≡ a → (b : Bool) → ltb i 32 ≡ b → cond (a && b) (getD r (32 * t + i) 0) 0 ≡ 0
+    slots t i true e true f = root-nil (32 * t + i) (omega (arith, ltb-true t 16 e, ltb-true i 32 f))
+    slots t i true e false f = refl
+    slots t i false e b f = refl
+
+    globals : (g : ℕ) (a : Bool) → ltb g 32 ≡ a → cond a (getD r (512 + g) 0) 0 ≡ 0
+    globals g true e = root-nil (512 + g) (omega (arith, ltb-true g 32 e))
+    globals g false e = refl
+
+    opened : (t : ℕ) (a : Bool) → ltb t 16 ≡ a → (a && not (eqb (getD r (544 + t) 0) 0)) ≡ false
+    opened t true e = rw (root-nil (544 + t) (omega (arith, ltb-true t 16 e)))
+    opened t false e = refl
+
+pub fresh-kept : (h : Heap) → Sized h → Audited (fresh h)
+unfolding fresh owner pageCount kindEntry
+fresh-kept h Z = record {
+  sized = record {
+    low = Z .low;
+    high = Z .high;
+    arena = Z .arena;
+    table = length-replicate (3 * h .pages) 0;
+    bits = length-replicate (64 * h .pages) 0;
+    roots = length-set (zeros 562) 560 1 ∙ length-replicate {A = ℕ} 562 0;
+  };
+  spans = record {
+    whose = λ g y. absurd (omega (arith, zero-at (3 * h .pages) (3 * g)));
+    body = λ s g e. absurd (omega (arith, zero-at (3 * h .pages) (3 * s)));
+    inside = λ s e. absurd (omega (arith, zero-at (3 * h .pages) (3 * s)));
+    rest = λ g d. (zero-at (3 * h .pages) (3 * g + 1), zero-at (3 * h .pages) (3 * g + 2));
+    entry = λ s e. absurd (omega (arith, zero-at (3 * h .pages) (3 * s)));
+  };
+  bits = record {
+    element = λ w a. absurd (none allocated w a);
+    marks = λ w a. absurd (none marked w a);
+    grays = λ w a. absurd (none gray w a);
+    pointers = λ w a. absurd (none pointer w a);
+    head = λ w a. absurd (none allocated w a);
+    run = λ w a. absurd (none pointer w a);
+  };
+  phases = record {
+    none = λ e w. no-bit (1024 * h .pages) (64 * h .pages) marked w;
+    swept = λ d s e. absurd (omega (arith, zero-at (3 * h .pages) (3 * s)));
+    plain = λ d w. no-bit (1024 * h .pages) (64 * h .pages) gray w;
+    unswept = λ e w a. absurd (none marked w a);
+  };
+  references = record { root = λ x l. inl (root-nil x (omega arith)); content = λ v a. absurd (none pointer v a) };
+  states = record {
+    phase = rw (root-nil 561 (omega arith)) (omega arith);
+    legal = λ s l. rw (root-nil (544 + s) (omega arith)) (omega arith, λ e. absurd (omega arith));
+    globals = rw (root-is 560) (omega arith, omega arith, λ e. absurd (omega arith));
+    closed = λ s i l m e. root-nil (32 * s + i) (omega arith);
+  };
+  occupied = λ s e. absurd (omega (arith, zero-at (3 * h .pages) (3 * s)));
+}
+  where
+    none : (q : Part) (w : ℕ) → T (bitIn (1024 * h .pages) q (zeros (64 * h .pages)) w) → ⊥
+    none q w a = true≢false (sym (of-true _ a) ∙ no-bit (1024 * h .pages) (64 * h .pages) q w)

@@ -1,0 +1,142 @@
+-- What a call comes to (`Happens`): a step of the theory, a heap that passes the audit, what it answered, and a refusal that is not 12. Every outcome
+-- is split by its refusal; what the view shows of slots, stacks and words is here too.
+use Prim.Native.Nat.{ℕ, zero, _+_, _-_, _*_, _/_, _<_, _≤_}
+use mathlib.Core.Bool.{Bool, true, false, not, cond, and-false}
+use mathlib.Core.Logic.{_≢_}
+use mathlib.Core.Path.{_≡_, refl, ap, sym}
+use native.Mathlib.Omega.{arith}
+use lib.Dec.{T, eqb}
+use borrow.Author.Tests.{lt-ltb, eq-eqb, ne-eqb, eqb-true, eqb-false}
+use Rattle.marking.specs.Calls.{Phase, off, mark, sweep}
+use Rattle.marking.specs.Heap
+use Rattle.marking.specs.Trace.{Step}
+use Rattle.marking.specs.Trace
+use Rattle.model.specs.Memory.{Heap, choose, setRoot, slot, global, state, phase, word, words, wordOf, slotAt}
+use Rattle.model.specs.Spans.{spanOf, elementWords, pointerCount}
+use Rattle.model.specs.Answers.{outcome}
+use Rattle.model.specs.Calls.{audited, Call, Setup, Audit, Start, ScanGlobals, MarkStep, Finish, SweepStep, Open, Close, ScanStack, Clear, Copy, Get, LoadGlobal, StoreGlobal, Allocate, Load, Store, Put}
+use Rattle.model.specs.declared.Answer.{Answer}
+use Rattle.model.specs.declared.Answer.the-variants.{Refused, Value}
+use Rattle.model.proofs.Tests.{of-true}
+use Rattle.model.proofs.Facts.{Audited, not-unswept}
+use Rattle.history.specs.Ledger.{refusal, accepted, event}
+use Rattle.history.proofs.View.{view, phaseOf, lateAt, wordsAt, runFrom, marking-is}
+
+-- what an accepted call that sets a slot, or gets a word, has answered, of the heap that it leaves
+abbrev pub Gives : Call → Answer → Heap → Type 0
+Gives Setup a h = Unit {0}
+Gives Audit a h = Unit {0}
+Gives (Open s) a h = Unit {0}
+Gives (Close s) a h = Unit {0}
+Gives (Allocate s i size p) a h = a ≡ Value (view h .slots s i)
+Gives (Copy s i j) a h = a ≡ Value (view h .slots s i)
+Gives (Clear s i) a h = a ≡ Value (view h .slots s i)
+Gives (Load s i j f) a h = a ≡ Value (view h .slots s i)
+Gives (Store s j f k) a h = Unit {0}
+Gives (Put s j f v) a h = Unit {0}
+Gives (Get s j f) a h = a ≡ Value (view h .arena (Heap.wordOf (view h .slots s j) + f))
+Gives (LoadGlobal s i g) a h = a ≡ Value (view h .slots s i)
+Gives (StoreGlobal s g i) a h = Unit {0}
+Gives Start a h = Unit {0}
+Gives (ScanStack s) a h = Unit {0}
+Gives ScanGlobals a h = Unit {0}
+Gives MarkStep a h = Unit {0}
+Gives Finish a h = Unit {0}
+Gives SweepStep a h = Unit {0}
+
+-- what an accepted call on h comes to
+pub record Accepts (h : Heap) (c : Call) (a : Answer) (h′ : Heap) : Type 0 where
+  pub step : Step (view h) (event c a) (view h′)
+  pub audited : Audited h′
+  pub said : Gives c a h′
+  pub zero : refusal a ≡ 0
+
+-- .. and any call
+pub record Happens (h : Heap) (c : Call) (a : Answer) (h′ : Heap) : Type 0 where
+  pub step : Step (view h) (event c a) (view h′)
+  pub audited : Audited h′
+  pub said : T (accepted a) → Gives c a h′
+  pub sound : refusal a ≢ 12
+
+-- a refused call leaves all as it is
+pub is-refused : {h : Heap} → Audited h → (c : Call) (n : ℕ) → n ≢ 0 → n ≢ 12 → Happens h c (Refused n) h
+is-refused {h} F c n d m = record { step = rw (ne-eqb n 0 d) Trace.Step.refused; audited = F; said = λ t. absurd (d (eqb-true n 0 (of-true _ t))); sound = m }
+
+-- an outcome by its refusal, which is none of 11 and 12
+pub by-refusal : {h : Heap} → Audited h → (c : Call) (n : ℕ) → n ≤ 10 → (a : Answer) (done : Heap) → done .pages ≡ h .pages → (n ≡ 0 → Accepts h c a done) →
+    let o = outcome n h a done in Happens h c (o .answer) (o .heap)
+by-refusal {h} F c n l a done e f = go (eqb n 0) refl
+  where
+    go : (b : Bool) → eqb n 0 ≡ b → Happens h c (cond b a (Refused n)) (choose b done h)
+    go true p = let x = f (eqb-true n 0 p) in record { step = x .step; audited = x .audited; said = λ t. x .said; sound = rw (x .zero) (omega arith) }
+    go false p = rw e (is-refused F c n (eqb-false n 0 p) (omega arith))
+
+-- a slot that was set holds the value
+pub slot-now : {h : Heap} → Audited h → (s i v : ℕ) → s < 16 → i < 32 → Value v ≡ Value (view (setRoot (slotAt s i) v h) .slots s i)
+unfolding view
+slot-now {h} F s i v a b = ap Value (sym (rw (
+  lt-ltb s 16 a,
+  lt-ltb i 32 b,
+  Rattle.history.proofs.Roots.root-at F (32 * s + i) v (omega arith) (32 * s + i),
+  eq-eqb (32 * s + i) (32 * s + i) refl,
+)))
+
+-- what the theory takes from the audit
+off-is : (n : ℕ) → phaseOf n ≡ off → n ≡ 0
+off-is n e = go (eqb n 0) refl (eqb n 1) e
+  where
+    code : Phase → ℕ
+    code off = 0
+    code mark = 1
+    code sweep = 2
+
+    go : (a : Bool) → eqb n 0 ≡ a → (b : Bool) → cond a off (cond b mark sweep) ≡ off → n ≡ 0
+    go true p b q = eqb-true n 0 p
+    go false p true q = absurd (omega (arith, ap code q))
+    go false p false q = absurd (omega (arith, ap code q))
+
+pub audit-view : {h : Heap} → Audited h → Heap.Audited (view h)
+unfolding view lateAt
+audit-view {h} F = record {
+  markedAllocated = F .bits .marks;
+  grayMarked = λ w g. F .bits .grays w g .0;
+  offUnmarked = λ e. F .phases .none (off-is (phase h) e);
+  markSwept = λ m w. rw (not-unswept (F .spans) (F .phases) (two (rw (marking-is (phase h)) at m)) (spanOf (h .table) w))
+      (and-false (not (Rattle.model.specs.Spans.isFree (h .table) (w / 1024))));
+}
+  where
+    two : T (eqb (phase h) 1) → phase h ≢ 2
+    two m q = omega (arith, eqb-true (phase h) 1 (of-true _ m))
+
+-- what the view says of a slot, a stack, a global, the phase
+pub see-slot : (h : Heap) (s i : ℕ) → s < 16 → i < 32 → view h .slots s i ≡ slot h s i
+unfolding view
+see-slot h s i a b = rw (lt-ltb s 16 a, lt-ltb i 32 b)
+
+pub see-open : (h : Heap) (s : ℕ) → s < 16 → state h s ≢ 0 → T (view h .opened s)
+unfolding view
+see-open h s a d = rw (lt-ltb s 16 a, ne-eqb (state h s) 0 d) tt
+
+pub see-global : (h : Heap) (g : ℕ) → g < 32 → view h .globals g ≡ global h g
+unfolding view
+see-global h g a = rw (lt-ltb g 32 a)
+
+pub see-phase : (h : Heap) {n : ℕ} → phase h ≡ n → view h .phase ≡ phaseOf n
+unfolding view
+see-phase h e = rw e
+
+pub see-pointers : (h : Heap) (w : ℕ) → view h .elements .pointers w ≡ pointerCount h w
+unfolding view wordsAt runFrom
+see-pointers h w = refl
+
+pub see-words : (h : Heap) (w : ℕ) → view h .elements .words w ≡ elementWords (h .table) (spanOf (h .table) w)
+unfolding view wordsAt
+see-words h w = refl
+
+pub see-word : (h : Heap) (w : ℕ) → view h .arena w ≡ word h w
+unfolding view
+see-word h w = refl
+
+pub see-at : (a : ℕ) → Heap.wordOf a ≡ wordOf a
+unfolding Heap.wordOf
+see-at a = refl

@@ -1,0 +1,208 @@
+-- The four buffers seen as the theory's heap of functions: arena words, bits and slots by number. What each call that changes the roots, the arena
+-- or the colours does to the buffers is, seen so, what the theory's call does.
+use Prim.Native.Nat.{ℕ, _+_, _-_, _*_, _/_, _<_, _≤_}
+use mathlib.Core.List.{List}
+use mathlib.Core.Bool.{Bool, true, false, not, cond, _&&_, and-false}
+use mathlib.Core.Logic.{_≢_}
+use mathlib.Core.Path.{_≡_, refl, ap, sym, _∙_, fun-ext}
+use native.Mathlib.Omega.{arith}
+use lib.ListN.{getD, set, length}
+use lib.Dec.{eqb, ltb}
+use borrow.Author.Tests.{ltb-true, ltb-false, lt-ltb, eq-eqb, ne-eqb, eqb-true, eqb-false}
+use Rattle.marking.specs.Updates.{update, update2, update-is, update2-is}
+use Rattle.marking.specs.Calls.{Phase, off, mark, sweep, marking}
+use Rattle.marking.specs.Heap
+use Rattle.marking.specs.Heap.{ColourBits, Elements, heapAssign, heapPut, heapStart, heapEndCycle}
+use Rattle.model.specs.Bounded.{firstBelow}
+use Rattle.model.specs.Memory.{Heap, withArena, withRoots, setRoot, slotAt, phase}
+use Rattle.model.specs.Bitmaps.{allocated, marked, gray, pointer, is}
+use Rattle.model.specs.Spans.{isFree, elementWords, spanOf}
+use Rattle.model.specs.Cycle.{scan}
+use Rattle.model.proofs.Words.{set-at}
+use Rattle.model.proofs.Facts.{Audited, bit, scanAt, unsweptAt}
+use Rattle.history.proofs.Roots.{root-at, root-other, started, started-at, started-low, started-state}
+
+abbrev pub phaseOf : ℕ → Phase
+phaseOf n = cond (eqb n 0) off (cond (eqb n 1) mark sweep)
+
+-- the span of word w is there and unswept
+unfoldable pub lateAt : List ℕ → ℕ → Bool
+lateAt t w = not (isFree t (w / 1024)) && unsweptAt t w
+
+unfoldable pub wordsAt : List ℕ → ℕ → ℕ
+wordsAt t w = elementWords t (spanOf t w)
+
+unfoldable pub scansAt : List ℕ → ℕ → Bool
+scansAt t w = scanAt t w
+
+-- the pointer words from w on, of at most n
+unfoldable pub runFrom : (ℕ → Bool) → ℕ → ℕ → ℕ
+runFrom p w n = firstBelow n (λ f. not (p (w + f)))
+
+abbrev pub elementsOf : List ℕ → (ℕ → Bool) → Elements
+elementsOf t p = record { scan = scansAt t; pointers = λ w. runFrom p w (wordsAt t w); words = wordsAt t }
+
+abbrev pub coloursOf : (P : ℕ) → List ℕ → List ℕ → ColourBits
+coloursOf P b r = record {
+  marked = bit P marked b;
+  gray = bit P gray b;
+  grayGlobals = eqb (getD r 560 0) 2;
+  grayStack = λ s. ltb s 16 && eqb (getD r (544 + s) 0) 2;
+}
+
+abbrev pub slotsOf : List ℕ → ℕ → ℕ → ℕ
+slotsOf r = λ s i. cond (ltb s 16 && ltb i 32) (getD r (32 * s + i) 0) 0
+
+abbrev pub globalsOf : List ℕ → ℕ → ℕ
+globalsOf r = λ g. cond (ltb g 32) (getD r (512 + g) 0) 0
+
+-- a test of the stacks' states
+abbrev pub states : (ℕ → Bool) → List ℕ → ℕ → Bool
+states f r = λ s. ltb s 16 && f (getD r (544 + s) 0)
+
+unfoldable pub view : Heap → Heap.Heap
+view h = record {
+  arena = λ w. getD (h .arena) w 0;
+  allocated = is allocated h;
+  elements = elementsOf (h .table) (is pointer h);
+  unswept = lateAt (h .table);
+  bits = coloursOf (h .pages) (h .bits) (h .roots);
+  slots = slotsOf (h .roots);
+  globals = globalsOf (h .roots);
+  opened = states (λ x. not (eqb x 0)) (h .roots);
+  phase = phaseOf (getD (h .roots) 561 0);
+}
+
+-- equal parts make equal heaps
+pub colours-eq : {B C : ColourBits} → B .marked ≡ C .marked → B .gray ≡ C .gray → B .grayGlobals ≡ C .grayGlobals → B .grayStack ≡ C .grayStack → B ≡ C
+colours-eq a b c d = λ i. record { marked = a i; gray = b i; grayGlobals = c i; grayStack = d i }
+
+pub heap-eq : {H K : Heap.Heap} → H .arena ≡ K .arena → H .allocated ≡ K .allocated → H .elements ≡ K .elements → H .unswept ≡ K .unswept → H .bits ≡ K .bits →
+    H .slots ≡ K .slots → H .globals ≡ K .globals → H .opened ≡ K .opened → H .phase ≡ K .phase → H ≡ K
+heap-eq a b c d e f g h j = λ i. record { arena = a i; allocated = b i; elements = c i; unswept = d i; bits = e i; slots = f i; globals = g i; opened = h i; phase = j i }
+
+pub marking-is : (n : ℕ) → marking (phaseOf n) ≡ eqb n 1
+marking-is n = go (eqb n 0) refl (eqb n 1) refl
+  where
+    go : (a : Bool) → eqb n 0 ≡ a → (b : Bool) → eqb n 1 ≡ b → marking (cond a off (cond b mark sweep)) ≡ b
+    go true e true f = absurd (omega (arith, eqb-true n 0 e, eqb-true n 1 f))
+    go true e false f = refl
+    go false e true f = refl
+    go false e false f = refl
+
+-- the parts of the roots, where they are the same
+pub slots-same : (l k : List ℕ) → ((x : ℕ) → x < 512 → getD l x 0 ≡ getD k x 0) → slotsOf l ≡ slotsOf k
+slots-same l k f = fun-ext (λ t. fun-ext (λ i. go t i (ltb t 16) refl (ltb i 32) refl))
+  where
+    go : (t i : ℕ) (p : Bool) → ltb t 16 ≡ p → (q : Bool) → ltb i 32 ≡ q → cond (p && q) (getD l (32 * t + i) 0) 0 ≡ cond (p && q) (getD k (32 * t + i) 0) 0
+    go t i true e true g = f (32 * t + i) (omega (arith, ltb-true t 16 e, ltb-true i 32 g))
+    go t i true e false g = refl
+    go t i false e q g = refl
+
+pub globals-same : (l k : List ℕ) → ((x : ℕ) → 512 ≤ x → x < 544 → getD l x 0 ≡ getD k x 0) → globalsOf l ≡ globalsOf k
+globals-same l k f = fun-ext (λ g. go g (ltb g 32) refl)
+  where
+    go : (g : ℕ) (p : Bool) → ltb g 32 ≡ p → cond p (getD l (512 + g) 0) 0 ≡ cond p (getD k (512 + g) 0) 0
+    go g true e = f (512 + g) (omega arith) (omega (arith, ltb-true g 32 e))
+    go g false e = refl
+
+pub states-same : (t : ℕ → Bool) (l k : List ℕ) → ((x : ℕ) → 544 ≤ x → x < 560 → getD l x 0 ≡ getD k x 0) → states t l ≡ states t k
+states-same t l k f = fun-ext (λ s. go s (ltb s 16) refl)
+  where
+    go : (s : ℕ) (p : Bool) → ltb s 16 ≡ p → (p && t (getD l (544 + s) 0)) ≡ (p && t (getD k (544 + s) 0))
+    go s true e = ap t (f (544 + s) (omega arith) (omega (arith, ltb-true s 16 e)))
+    go s false e = refl
+
+pub eqb-shift : (a x g : ℕ) → eqb (a + x) (a + g) ≡ eqb x g
+eqb-shift a x g = go (eqb x g) refl
+  where
+    go : (b : Bool) → eqb x g ≡ b → eqb (a + x) (a + g) ≡ b
+    go true e = eq-eqb (a + x) (a + g) (omega (arith, eqb-true x g e))
+    go false e = ne-eqb (a + x) (a + g) (λ p. eqb-false x g e (omega arith))
+
+-- .. after one state became v
+pub state-set : (f : ℕ → Bool) (l : List ℕ) (s v : ℕ) (b : Bool) → length l ≡ 562 → s < 16 → f v ≡ b → states f (set l (544 + s) v) ≡ update (states f l) s b
+state-set f l s v b z h e = fun-ext (λ t. rw (set-at l (544 + s) v (omega arith) (544 + t), eqb-shift 544 t s, update-is (states f l) s b t) (go t (eqb t s) refl))
+  where
+    go : (t : ℕ) (c : Bool) → eqb t s ≡ c → (ltb t 16 && f (cond c v (getD l (544 + t) 0))) ≡ cond c b (ltb t 16 && f (getD l (544 + t) 0))
+    go t true p = rw (eqb-true t s p, lt-ltb s 16 h, e)
+    go t false p = refl
+
+-- .. after one slot became v
+pair : (t j s i : ℕ) → j < 32 → i < 32 → eqb (32 * t + j) (32 * s + i) ≡ (eqb t s && eqb j i)
+pair t j s i h k = go (eqb t s) refl (eqb j i) refl
+  where
+    go : (a : Bool) → eqb t s ≡ a → (b : Bool) → eqb j i ≡ b → eqb (32 * t + j) (32 * s + i) ≡ (a && b)
+    go true p true q = eq-eqb (32 * t + j) (32 * s + i) (omega (arith, eqb-true t s p, eqb-true j i q))
+    go true p false q = ne-eqb (32 * t + j) (32 * s + i) (λ x. eqb-false j i q (omega (arith, eqb-true t s p)))
+    go false p b q = ne-eqb (32 * t + j) (32 * s + i) (λ x. eqb-false t s p (omega arith))
+
+pub slot-set : (r : List ℕ) (s i v : ℕ) → length r ≡ 562 → s < 16 → i < 32 → slotsOf (set r (32 * s + i) v) ≡ update2 (slotsOf r) s i v
+slot-set r s i v z h k =
+    fun-ext (λ t. fun-ext (λ j. rw (set-at r (32 * s + i) v (omega arith) (32 * t + j), update2-is (slotsOf r) s i v t j) (go t j (ltb t 16) refl (ltb j 32) refl)))
+  where
+    go : (t j : ℕ) (a : Bool) → ltb t 16 ≡ a → (b : Bool) → ltb j 32 ≡ b →
+        cond (a && b) (cond (eqb (32 * t + j) (32 * s + i)) v (getD r (32 * t + j) 0)) 0 ≡ cond (eqb t s && eqb j i) v (cond (a && b) (getD r (32 * t + j) 0) 0)
+    go t j true p true q = rw (pair t j s i (ltb-true j 32 q) k)
+    go t j true p false q = rw (ne-eqb j i (λ x. absurd (omega (arith, ltb-false j 32 q))), and-false (eqb t s))
+    go t j false p b q = rw (ne-eqb t s (λ x. absurd (omega (arith, ltb-false t 16 p))))
+
+-- a slot is set
+pub slot-view : {h : Heap} → Audited h → (s i v : ℕ) → s < 16 → i < 32 → view (setRoot (slotAt s i) v h) ≡ heapAssign s i v (view h)
+unfolding view heapAssign
+slot-view {h} F s i v l k = heap-eq refl refl refl refl
+    (colours-eq refl refl (rw (rest 560 (omega arith))) (fun-ext (λ t. rw (rest (544 + t) (omega arith)))))
+    (slot-set (h .roots) s i v (F .sized .roots) l k)
+    (fun-ext (λ g. rw (rest (512 + g) (omega arith))))
+    (fun-ext (λ t. rw (rest (544 + t) (omega arith))))
+    (ap phaseOf (rest 561 (omega arith)))
+  where
+    rest : (x : ℕ) → 512 ≤ x → getD (set (h .roots) (32 * s + i) v) x 0 ≡ getD (h .roots) x 0
+    rest x a = root-other F (32 * s + i) v (omega arith) x (omega arith)
+
+-- a number is put
+pub put-view : {h : Heap} → Audited h → (w v : ℕ) → w < 1024 * h .pages → view (withArena (set (h .arena) w v) h) ≡ heapPut w v (view h)
+unfolding view heapPut
+put-view {h} F w v l = heap-eq (arena-set h F w v l) refl refl refl refl refl refl refl refl
+  where
+    arena-set : (h : Heap) → Audited h → (w v : ℕ) → w < 1024 * h .pages → (λ (x : ℕ). getD (set (h .arena) w v) x 0) ≡ update (λ (x : ℕ). getD (h .arena) x 0) w v
+    arena-set h F w v l = fun-ext (λ x. set-at (h .arena) w v (omega (arith, F .sized .arena)) x ∙ sym (update-is (λ (x : ℕ). getD (h .arena) x 0) w v x))
+
+-- the end of a cycle
+pub end-view : {h : Heap} → Audited h → view (setRoot 561 0 h) ≡ heapEndCycle (view h)
+unfolding view heapEndCycle
+end-view {h} F = heap-eq refl refl refl refl
+    (colours-eq refl refl (rw (rest 560 (omega arith))) (states-same (λ x. eqb x 2) (set (h .roots) 561 0) (h .roots) (λ x b c. rest x (omega arith))))
+    (slots-same (set (h .roots) 561 0) (h .roots) (λ x l. rest x (omega arith)))
+    (globals-same (set (h .roots) 561 0) (h .roots) (λ x b c. rest x (omega arith)))
+    (states-same (λ x. not (eqb x 0)) (set (h .roots) 561 0) (h .roots) (λ x b c. rest x (omega arith)))
+    (ap phaseOf (root-at F 561 0 (omega arith) 561))
+  where
+    rest : (x : ℕ) → x ≢ 561 → getD (set (h .roots) 561 0) x 0 ≡ getD (h .roots) x 0
+    rest = root-other F 561 0 (omega arith)
+
+-- start
+pub start-view : {h : Heap} → Audited h → view (withRoots (started h) h) ≡ heapStart (view h)
+unfolding view heapStart
+start-view {h} F = heap-eq refl refl refl refl
+    (colours-eq refl refl (rw (started-at F 560)) (fun-ext (λ t. gray′ t (ltb t 16) refl)))
+    (slots-same (started h) (h .roots) (λ x l. started-low F x (omega arith)))
+    (globals-same (started h) (h .roots) (λ x l k. started-low F x (omega arith)))
+    (fun-ext (λ t. op t (ltb t 16) refl))
+    (rw (started-at F 561))
+  where
+    two : (b : Bool) → eqb (cond b 0 2) 2 ≡ not b
+    two true = refl
+    two false = refl
+
+    nil : (b : Bool) → not (eqb (cond b 0 2) 0) ≡ not b
+    nil true = refl
+    nil false = refl
+
+    gray′ : (t : ℕ) (p : Bool) → ltb t 16 ≡ p → (p && eqb (getD (started h) (544 + t) 0) 2) ≡ (p && not (eqb (getD (h .roots) (544 + t) 0) 0))
+    gray′ t true e = rw (started-state F t (ltb-true t 16 e)) (two (eqb (getD (h .roots) (544 + t) 0) 0))
+    gray′ t false e = refl
+
+    op : (t : ℕ) (p : Bool) → ltb t 16 ≡ p → (p && not (eqb (getD (started h) (544 + t) 0) 0)) ≡ (p && not (eqb (getD (h .roots) (544 + t) 0) 0))
+    op t true e = rw (started-state F t (ltb-true t 16 e)) (nil (eqb (getD (h .roots) (544 + t) 0) 0))
+    op t false e = refl

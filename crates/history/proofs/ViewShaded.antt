@@ -1,0 +1,277 @@
+-- The calls that shade or empty a stack, seen as the theory's: open and close, stores with their barrier, scans, and mark steps.
+use Prim.Native.Nat.{ℕ, zero, suc, _+_, _-_, _*_, _<_, _≤_}
+use mathlib.Core.List.{List}
+use mathlib.Core.Bool.{Bool, true, false, not, cond, _&&_}
+use mathlib.Core.Logic.{_≢_}
+use mathlib.Core.Path.{_≡_, refl, ap, sym, _∙_, fun-ext}
+use native.Mathlib.Omega.{arith}
+use lib.ListN.{getD, set, length}
+use lib.Dec.{eqb, ltb}
+use borrow.Author.Tests.{ltb-true, ltb-false, lt-ltb, ne-eqb, eqb-true, eqb-false}
+use Rattle.marking.specs.Updates.{update, update-is}
+use Rattle.marking.specs.Calls.{marking}
+use Rattle.marking.specs.Heap.{ColourBits, shadeBits, shadeAllBits, heapStore, heapStoreGlobal, heapResetStack, heapScanStack, heapScanGlobals, heapMarkStep, stackScanned}
+use Rattle.model.specs.Memory.{Heap, withArena, withBits, setRoot, putWords, globalAt, stateAt, slot, global, word, phase}
+use Rattle.model.specs.Bitmaps.{Part, allocated, marked, gray, pointer, is, putBit}
+use Rattle.model.specs.Spans.{pointerCount}
+use Rattle.model.specs.Shading.{shade, shadeAll, barrier}
+use Rattle.model.specs.Records.{emptied}
+use Rattle.model.specs.Cycle.{scan, scanRecord}
+use Rattle.model.proofs.Bounded.{within, within-yes, within-low, within-high}
+use Rattle.model.proofs.Words.{set-at, words-at, words-length}
+use Rattle.model.proofs.Bitmaps.{Four, samePart, part-at, part-length}
+use Rattle.model.proofs.Effects.{barrier-is}
+use Rattle.model.proofs.Facts.{Audited, bit, four, There}
+use Rattle.model.proofs.Shading.{shade-length, shade-marked, shade-gray, shade-other, all-four, all-other, all-suc, all-zero}
+use Rattle.history.proofs.Roots.{root-at, root-other, emptied-at}
+use Rattle.history.proofs.View.{view, phaseOf, scansAt, wordsAt, runFrom, elementsOf, coloursOf, slotsOf, globalsOf, states, colours-eq, heap-eq, marking-is, slots-same, globals-same, states-same, state-set}
+
+-- a stack is emptied, and open afterwards (n is 1) or closed (n is 0)
+pub emptied-view : {h : Heap} → Audited h → (s n : ℕ) (b : Bool) → s < 16 → eqb n 2 ≡ false → not (eqb n 0) ≡ b → view (emptied h s n) ≡ heapResetStack s b (view h)
+unfolding view emptied heapResetStack
+emptied-view {h} F s n b l e2 e0 = heap-eq refl refl refl refl
+    (colours-eq refl refl (rw (rest 560 (omega arith) (omega arith))) (state-set (λ x. eqb x 2) mid s n false size l e2 ∙ ap (λ f. update f s false) (old (λ x. eqb x 2))))
+    (fun-ext (λ t. fun-ext (λ i. rw (update-is (slotsOf (h .roots)) s (λ i. 0) t) (slots t i (ltb t 16) refl (ltb i 32) refl))))
+    (fun-ext (λ g. globs g (ltb g 32) refl))
+    (state-set (λ x. not (eqb x 0)) mid s n b size l e0 ∙ ap (λ f. update f s b) (old (λ x. not (eqb x 0))))
+    (ap phaseOf (rest 561 (omega arith) (omega arith)))
+  where
+    mid : List ℕ
+    mid = putWords (32 * s + 0) 32 (λ i. 0) (h .roots)
+
+    size : length mid ≡ 562
+    size = words-length 562 (32 * s + 0) 32 (λ i. 0) (h .roots) (omega arith) (F .sized .roots)
+
+    middle : (x : ℕ) → getD mid x 0 ≡ cond (within (32 * s + 0) 32 x) 0 (getD (h .roots) x 0)
+    middle = words-at 562 (32 * s + 0) 32 (λ i. 0) (h .roots) (omega arith) (F .sized .roots)
+
+    at : (x : ℕ) → getD (set mid (544 + s) n) x 0 ≡ cond (eqb x (544 + s)) n (cond (within (32 * s + 0) 32 x) 0 (getD (h .roots) x 0))
+    at = emptied-at F s n l
+
+    rest : (x : ℕ) → 512 ≤ x → x ≢ 544 + s → getD (set mid (544 + s) n) x 0 ≡ getD (h .roots) x 0
+    rest x a d = rw (at x, ne-eqb x (544 + s) d, within-high (32 * s + 0) 32 x (omega arith))
+
+    old : (f : ℕ → Bool) → states f mid ≡ states f (h .roots)
+    old f = fun-ext (λ t. rw (middle (544 + t), within-high (32 * s + 0) 32 (544 + t) (omega arith)))
+
+    slots : (t i : ℕ) (p : Bool) → ltb t 16 ≡ p → (q : Bool) → ltb i 32 ≡ q →
+        cond (p && q) (getD (set mid (544 + s) n) (32 * t + i) 0) 0 ≡
+        (cond {A = ℕ → ℕ} (eqb t s) (λ (i : ℕ). 0) (λ (i : ℕ). cond (p && ltb i 32) (getD (h .roots) (32 * t + i) 0) 0)) i
+    slots t i true e true f = rw (at (32 * t + i), ne-eqb (32 * t + i) (544 + s) (omega (arith, ltb-true t 16 e, ltb-true i 32 f))) (in-stack (eqb t s) refl)
+      where
+        in-stack : (c : Bool) → eqb t s ≡ c → cond (within (32 * s + 0) 32 (32 * t + i)) 0 (getD (h .roots) (32 * t + i) 0) ≡
+            (cond {A = ℕ → ℕ} c (λ (i : ℕ). 0) (λ (i : ℕ). cond (ltb i 32) (getD (h .roots) (32 * t + i) 0) 0)) i
+        in-stack true g = rw (within-yes (32 * s + 0) 32 (32 * t + i) (omega (arith, eqb-true t s g)) (omega (arith, eqb-true t s g, ltb-true i 32 f)))
+        in-stack false g = rw (f, off′ (ltb t s) refl)
+          where
+            off′ : (c : Bool) → ltb t s ≡ c → within (32 * s + 0) 32 (32 * t + i) ≡ false
+            off′ true k = within-low (32 * s + 0) 32 (32 * t + i) (omega (arith, ltb-true t s k, ltb-true i 32 f))
+            off′ false k = within-high (32 * s + 0) 32 (32 * t + i) (omega (arith, ltb-false t s k, eqb-false t s g))
+    slots t i true e false f = none (eqb t s)
+      where
+        none : (c : Bool) → 0 ≡ (cond {A = ℕ → ℕ} c (λ (i : ℕ). 0) (λ (i : ℕ). cond (ltb i 32) (getD (h .roots) (32 * t + i) 0) 0)) i
+        none true = refl
+        none false = rw f
+    slots t i false e q f = none (eqb t s)
+      where
+        none : (c : Bool) → 0 ≡ (cond {A = ℕ → ℕ} c (λ (i : ℕ). 0) (λ (i : ℕ). 0)) i
+        none true = refl
+        none false = refl
+
+    globs : (g : ℕ) (p : Bool) → ltb g 32 ≡ p → cond p (getD (set mid (544 + s) n) (512 + g) 0) 0 ≡ cond p (getD (h .roots) (512 + g) 0) 0
+    globs g true e = rest (512 + g) (omega arith) (omega (arith, ltb-true g 32 e))
+    globs g false e = refl
+
+-- one value shaded
+pub shade-view : (P : ℕ) (t : List ℕ) (v : ℕ) (b : List ℕ) → There P v → Four (1024 * P) b →
+    (r : List ℕ) → coloursOf P (shade P t v b) r ≡ shadeBits (scansAt t) v (coloursOf P b r)
+unfolding shadeBits scansAt Rattle.marking.specs.Heap.wordOf
+shade-view P t v b h f r = colours-eq (fun-ext (shade-marked P t v b h f)) (fun-ext (shade-gray P t v b h f)) refl refl
+
+-- many values shaded
+pub all-view : (P : ℕ) (t : List ℕ) (value : ℕ → ℕ) (b : List ℕ) → Four (1024 * P) b → (n : ℕ) → ((k : ℕ) → k < n → There P (value k)) → (r : List ℕ) →
+    coloursOf P (shadeAll P t n value b) r ≡ shadeAllBits (scansAt t) value n (coloursOf P b r)
+unfolding shadeAllBits
+all-view P t value b f zero h r = rw (all-zero P t value b)
+all-view P t value b f (suc n) h r =
+    rw (all-suc P t n value b) (shade-view P t (value n) (shadeAll P t n value b) (h n (omega arith)) (all-four P t value b f n (λ k l. h k (omega arith))) r
+    ∙ ap (shadeBits (scansAt t) (value n)) (all-view P t value b f n (λ k l. h k (omega arith)) r))
+
+-- the barrier: the colours, and what it leaves alone
+module _ {h : Heap} (F : Audited h) (old new : ℕ) (ho : There (h .pages) old) (hn : There (h .pages) new) where
+  abbrev P : ℕ
+  P = h .pages
+
+  abbrev first : List ℕ
+  first = shade (h .pages) (h .table) old (h .bits)
+
+  four′ : Four (1024 * h .pages) first
+  four′ = rw (shade-length P (h .table) old (h .bits) ho (four h (F .sized))) (four h (F .sized))
+
+  pub barrier-other : (q : Part) → samePart q marked ≡ false → samePart q gray ≡ false → bit (h .pages) q (barrier h old new) ≡ is q h
+  barrier-other q x y = rw (barrier-is h old new) (go (eqb (phase h) 1))
+    where
+      go : (b : Bool) → bit P q (cond b (shade P (h .table) new first) (h .bits)) ≡ is q h
+      go true = fun-ext (λ v. shade-other P (h .table) new first hn four′ q x y v ∙ shade-other P (h .table) old (h .bits) ho (four h (F .sized)) q x y v)
+      go false = refl
+
+  pub barrier-view : (r : List ℕ) → coloursOf (h .pages) (h .bits) r ≡ coloursOf (h .pages) (h .bits) (h .roots) → coloursOf (h .pages) (barrier h old new) r ≡
+      cond (marking (phaseOf (phase h))) (shadeBits (scansAt (h .table)) new (shadeBits (scansAt (h .table)) old (coloursOf (h .pages) (h .bits) (h .roots))))
+      (coloursOf (h .pages) (h .bits) (h .roots))
+  barrier-view r same = rw (barrier-is h old new, marking-is (phase h)) (go (eqb (phase h) 1))
+    where
+      go : (b : Bool) → coloursOf P (cond b (shade P (h .table) new first) (h .bits)) r ≡
+          cond b (shadeBits (scansAt (h .table)) new (shadeBits (scansAt (h .table)) old (coloursOf P (h .bits) (h .roots)))) (coloursOf P (h .bits) (h .roots))
+      go true = shade-view P (h .table) new first hn four′ r ∙
+          ap (shadeBits (scansAt (h .table)) new) (shade-view P (h .table) old (h .bits) ho (four h (F .sized)) r ∙
+          ap (shadeBits (scansAt (h .table)) old) same)
+      go false = same
+
+-- store to a record
+pub store-view : {h : Heap} → Audited h → (w v : ℕ) → w < 1024 * h .pages → There (h .pages) v → There (h .pages) (word h w) →
+    view (withArena (set (h .arena) w v) (withBits (barrier h (word h w) v) h)) ≡ heapStore w v (view h)
+unfolding view heapStore
+store-view {h} F w v l k o = heap-eq
+    (fun-ext (λ x. set-at (h .arena) w v (omega (arith, F .sized .arena)) x ∙ sym (update-is (λ (x : ℕ). getD (h .arena) x 0) w v x)))
+    (barrier-other F (word h w) v o k allocated refl refl) (ap (elementsOf (h .table)) (barrier-other F (word h w) v o k pointer refl refl))
+    refl (barrier-view F (word h w) v o k (h .roots) refl) refl refl refl refl
+
+-- store to a global
+pub store-global-view : {h : Heap} → Audited h → (g v : ℕ) → g < 32 → There (h .pages) v → There (h .pages) (global h g) →
+    view (setRoot (globalAt g) v (withBits (barrier h (global h g) v) h)) ≡ heapStoreGlobal g v (view h)
+unfolding view heapStoreGlobal
+store-global-view {h} F g v l k o = heap-eq refl
+    (barrier-other F (global h g) v o k allocated refl refl) (ap (elementsOf (h .table)) (barrier-other F (global h g) v o k pointer refl refl))
+    refl (rw (lt-ltb g 32 l) (barrier-view F (global h g) v o k r same))
+    (slots-same r (h .roots) (λ x b. rest x (omega arith)))
+    (fun-ext (λ x. rw (
+      set-at (h .roots) (512 + g) v (omega (arith, F .sized .roots)) (512 + x),
+      Rattle.history.proofs.View.eqb-shift 512 x g,
+      update-is (globalsOf (h .roots)) g v x,
+    ) (glob x (eqb x g) refl)))
+    (states-same (λ x. not (eqb x 0)) r (h .roots) (λ x b c. rest x (omega arith)))
+    (ap phaseOf (rest 561 (omega arith)))
+  where
+    r : List ℕ
+    r = set (h .roots) (512 + g) v
+
+    rest : (x : ℕ) → x ≢ 512 + g → getD r x 0 ≡ getD (h .roots) x 0
+    rest = root-other F (512 + g) v (omega arith)
+
+    same : coloursOf (h .pages) (h .bits) r ≡ coloursOf (h .pages) (h .bits) (h .roots)
+    same = colours-eq refl refl (rw (rest 560 (omega arith))) (states-same (λ x. eqb x 2) r (h .roots) (λ x b c. rest x (omega arith)))
+
+    glob : (x : ℕ) (b : Bool) → eqb x g ≡ b → cond (ltb x 32) (cond b v (getD (h .roots) (512 + x) 0)) 0 ≡ cond b v (cond (ltb x 32) (getD (h .roots) (512 + x) 0) 0)
+    glob x true e = rw (eqb-true x g e, lt-ltb g 32 l)
+    glob x false e = refl
+
+-- shadings of equal values
+all-cong : (sc : ℕ → Bool) (g k : ℕ → ℕ) (n : ℕ) (B : ColourBits) → ((i : ℕ) → i < n → g i ≡ k i) → shadeAllBits sc g n B ≡ shadeAllBits sc k n B
+unfolding shadeAllBits
+all-cong sc g k zero B f = refl
+all-cong sc g k (suc n) B f = rw (f n (omega arith), all-cong sc g k n B (λ i l. f i (omega arith)))
+
+update-id : {X : Type 0} (f : ℕ → X) (s : ℕ) (v : X) → f s ≡ v → update f s v ≡ f
+update-id f s v e = fun-ext (λ x. rw (update-is f s v x) (go x (eqb x s) refl))
+  where
+    go : (x : ℕ) (b : Bool) → eqb x s ≡ b → cond b v (f x) ≡ f x
+    go x true p = rw (eqb-true x s p) (sym e)
+    go x false p = refl
+
+-- scan a stack
+pub scan-stack-view : {h : Heap} → Audited h → (s : ℕ) → s < 16 → eqb (getD (h .roots) (544 + s) 0) 0 ≡ false → ((i : ℕ) → i < 32 → There (h .pages) (slot h s i)) →
+    view (scan 32 (slot h s) (stateAt s) h) ≡ heapScanStack s (view h)
+unfolding view heapScanStack
+scan-stack-view {h} F s l op th = heap-eq refl (fun-ext (λ v. all-other P t (slot h s) (h .bits) f 32 th allocated refl refl v))
+    (ap (elementsOf t) (fun-ext (λ v. all-other P t (slot h s) (h .bits) f 32 th pointer refl refl v))) refl
+    (flagged ∙ ap (stackScanned s) (all-view P t (slot h s) (h .bits) f 32 th (h .roots) ∙
+    all-cong (scansAt t) (slot h s) (slotsOf (h .roots) s) 32 (coloursOf P (h .bits) (h .roots)) (λ i b. rw (lt-ltb s 16 l, lt-ltb i 32 b))))
+    (slots-same r (h .roots) (λ x b. rest x (omega arith)))
+    (globals-same r (h .roots) (λ x b c. rest x (omega arith)))
+    (state-set (λ x. not (eqb x 0)) (h .roots) s 1 true (F .sized .roots) l refl ∙ update-id (states (λ x. not (eqb x 0)) (h .roots)) s true (rw (lt-ltb s 16 l, op)))
+    (ap phaseOf (rest 561 (omega arith)))
+  where
+    P : ℕ
+    P = h .pages
+
+    t : List ℕ
+    t = h .table
+
+    f : Four (1024 * h .pages) (h .bits)
+    f = four h (F .sized)
+
+    r : List ℕ
+    r = set (h .roots) (544 + s) 1
+
+    rest : (x : ℕ) → x ≢ 544 + s → getD r x 0 ≡ getD (h .roots) x 0
+    rest = root-other F (544 + s) 1 (omega arith)
+
+    flagged : coloursOf P (shadeAll P t 32 (slot h s) (h .bits)) r ≡ stackScanned s (coloursOf P (shadeAll P t 32 (slot h s) (h .bits)) (h .roots))
+    flagged = colours-eq refl refl (rw (rest 560 (omega arith))) (state-set (λ x. eqb x 2) (h .roots) s 1 false (F .sized .roots) l refl)
+
+-- scan the globals
+abbrev flags : Bool → (ℕ → Bool) → ColourBits → ColourBits
+flags a b B = record { marked = B .marked; gray = B .gray; grayGlobals = a; grayStack = b }
+
+pub scan-globals-view : {h : Heap} → Audited h → ((i : ℕ) → i < 32 → There (h .pages) (global h i)) → view (scan 32 (global h) 560 h) ≡ heapScanGlobals 32 (view h)
+unfolding view heapScanGlobals
+scan-globals-view {h} F th = heap-eq refl (fun-ext (λ v. all-other P t (global h) (h .bits) f 32 th allocated refl refl v))
+    (ap (elementsOf t) (fun-ext (λ v. all-other P t (global h) (h .bits) f 32 th pointer refl refl v))) refl
+    (all-view P t (global h) (h .bits) f 32 th r ∙ ap (shadeAllBits (scansAt t) (global h) 32) flagged
+    ∙ all-cong (scansAt t) (global h) (globalsOf (h .roots)) 32 (flags false (states (λ x. eqb x 2) (h .roots)) (coloursOf P (h .bits) (h .roots)))
+    (λ i b. rw (lt-ltb i 32 b)))
+    (slots-same r (h .roots) (λ x b. rest x (omega arith)))
+    (globals-same r (h .roots) (λ x b c. rest x (omega arith)))
+    (states-same (λ x. not (eqb x 0)) r (h .roots) (λ x b c. rest x (omega arith)))
+    (ap phaseOf (rest 561 (omega arith)))
+  where
+    P : ℕ
+    P = h .pages
+
+    t : List ℕ
+    t = h .table
+
+    f : Four (1024 * h .pages) (h .bits)
+    f = four h (F .sized)
+
+    r : List ℕ
+    r = set (h .roots) 560 1
+
+    rest : (x : ℕ) → x ≢ 560 → getD r x 0 ≡ getD (h .roots) x 0
+    rest = root-other F 560 1 (omega arith)
+
+    flagged : coloursOf P (h .bits) r ≡ flags false (states (λ x. eqb x 2) (h .roots)) (coloursOf P (h .bits) (h .roots))
+    flagged = colours-eq refl refl (rw (root-at F 560 1 (omega arith) 560)) (states-same (λ x. eqb x 2) r (h .roots) (λ x b c. rest x (omega arith)))
+
+-- a mark step
+pub mark-view : {h : Heap} → Audited h → (w : ℕ) → w < 1024 * h .pages → ((f : ℕ) → f < pointerCount h w → There (h .pages) (word h (w + f))) →
+    view (withBits (scanRecord w h) h) ≡ heapMarkStep w (view h .elements .pointers w) (view h)
+unfolding view scanRecord heapMarkStep runFrom wordsAt
+mark-view {h} F w l th = heap-eq refl (fun-ext (λ v. all-other P t g b f n th allocated refl refl v ∙ out allocated refl v))
+    (ap (elementsOf t) (fun-ext (λ v. all-other P t g b f n th pointer refl refl v ∙ out pointer refl v))) refl
+    (all-view P t g b f n th (h .roots) ∙ ap (shadeAllBits (scansAt t) g n) (colours-eq (fun-ext (λ v. out marked refl v)) gray′ refl refl))
+    refl refl refl refl
+  where
+    P : ℕ
+    P = h .pages
+
+    t : List ℕ
+    t = h .table
+
+    g : ℕ → ℕ
+    g = λ f. word h (w + f)
+
+    b : List ℕ
+    b = putBit (1024 * h .pages) gray w false (h .bits)
+
+    n : ℕ
+    n = pointerCount h w
+
+    f : Four (1024 * h .pages) b
+    f = rw (part-length (1024 * h .pages) gray w false (h .bits)) (four h (F .sized))
+
+    out : (q : Part) → samePart q gray ≡ false → (v : ℕ) → bit P q b v ≡ is q h v
+    out q e v = rw (part-at (1024 * h .pages) q gray w false (h .bits) l (four h (F .sized)) v, e)
+
+    gray′ : bit P gray b ≡ update (is gray h) w false
+    gray′ = fun-ext (λ v. rw (part-at (1024 * h .pages) gray gray w false (h .bits) l (four h (F .sized)) v, update-is (is gray h) w false v))

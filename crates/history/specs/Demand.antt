@@ -1,0 +1,154 @@
+-- DEMAND 3, as one claim about a list of calls, in the words of the scope document. The list follows an accepted setup, in any buffers; each of its
+-- requests has a P of its own and any numbers, is accepted or refused, and gets the buffers as the last one left them. What the calls do is what the
+-- contracts cite (crate model, specs/Calls.antt); the ledger is in Ledger.antt here and in the crate marking (specs/Ledger.antt there). The record
+-- `Demand` is the claim; proofs/Theorem.antt proves it.
+use Prim.Native.Nat.{ℕ, _+_, _≤_, _<_}
+use mathlib.Core.Bool.{not, cond}
+use mathlib.Core.List.{List, [], _∷_, _++_}
+use mathlib.Core.Logic.{_≢_}
+use mathlib.Core.Path.{_≡_}
+use lib.Dec.{T, eqb}
+use Rattle.marking.specs.Effect.{lasting, inCycle, turnedOff}
+use Rattle.marking.specs.Ledger.{Ledger, Event, effect, Each, empty, feed, feedAll, value, Reachable, lastBorn}
+use Rattle.marking.specs.Ledger as Records
+use Rattle.model.specs.Memory.{Heap, word, slot, global, state, wordOf, addressOf}
+use Rattle.model.specs.Bitmaps.{is, allocated}
+use Rattle.model.specs.Spans.{owner, pageCount}
+use Rattle.model.specs.Calls.{Call, Setup, Audit, Start, ScanGlobals, MarkStep, Finish, SweepStep, Open, Close, ScanStack, Clear, Copy, Get, LoadGlobal, StoreGlobal, Allocate, Load, Store, Put, Request, step, after}
+use Rattle.model.specs.declared.Answer.{Answer}
+use Rattle.model.specs.declared.Answer.the-variants.{Value}
+use Rattle.history.specs.Ledger.{accepted, event, onPages}
+
+-- a setup of P pages
+abbrev pub setupOf : ℕ → Request
+setupOf P = record { pages = P; call = Setup }
+
+-- the event of a call on buffers h, and those of a list of calls, each on the buffers as the last one left them
+abbrev pub eventOn : Heap → Request → Event
+eventOn h r = event (r .call) (step h r .answer)
+
+unfoldable pub events : Heap → List Request → List Event
+events h [] = []
+events h (r ∷ rs) = eventOn h r ∷ events (step h r .heap) rs
+
+-- the ledger after a list of calls; before the list stands an accepted setup, which "empties it"
+abbrev pub ledger : Heap → List Request → Ledger
+ledger h rs = feedAll (events h rs) empty
+
+-- a place in the list rs: one of its calls, with those before and after it
+pub record Place (rs : List Request) : Type 0 where
+  pub before : List Request
+  pub request : Request
+  pub later : List Request
+  pub list : rs ≡ before ++ (request ∷ later)
+
+-- at a place: the answer and the event, the ledger before and after, and the heap of P pages before and after
+abbrev pub answerAt : Heap → {rs : List Request} → Place rs → Answer
+answerAt h p = step (after h (p .before)) (p .request) .answer
+
+abbrev pub eventAt : Heap → {rs : List Request} → Place rs → Event
+eventAt h p = eventOn (after h (p .before)) (p .request)
+
+abbrev pub ledgerBefore : Heap → {rs : List Request} → Place rs → Ledger
+ledgerBefore h p = ledger h (p .before)
+
+abbrev pub ledgerAfter : Heap → {rs : List Request} → Place rs → Ledger
+ledgerAfter h p = feed (eventAt h p) (ledgerBefore h p)
+
+abbrev pub heapBefore : ℕ → Heap → {rs : List Request} → Place rs → Heap
+heapBefore P h p = onPages P (after h (p .before))
+
+abbrev pub heapAfter : ℕ → Heap → {rs : List Request} → Place rs → Heap
+heapAfter P h p = onPages P (step (after h (p .before)) (p .request) .heap)
+
+-- "After the list the same stacks are open as in the ledger and every slot and global equals the ledger's; each reachable record has its
+-- allocated bit set, its words from its address on equal the ledger's, and no two such records share a word."
+pub record Matches (h : Heap) (L : Ledger) : Type 0 where
+  pub stacks : (s : ℕ) → s < 16 → not (eqb (state h s) 0) ≡ L .opened s
+  pub slots : (s i : ℕ) → s < 16 → i < 32 → slot h s i ≡ value L (L .slot s i)
+  pub globals : (g : ℕ) → g < 32 → global h g ≡ value L (L .global g)
+  pub address : (x : ℕ) → Reachable L x → L .address x ≡ addressOf (wordOf (L .address x))
+  pub bit : (x : ℕ) → Reachable L x → T (is allocated h (wordOf (L .address x)))
+  pub words : (x f : ℕ) → Reachable L x → f < L .words x → word h (wordOf (L .address x) + f) ≡ Records.word L x f
+  pub apart : (x y f g : ℕ) → Reachable L x → Reachable L y → x ≢ y → f < L .words x → g < L .words y → wordOf (L .address x) + f ≢ wordOf (L .address y) + g
+
+-- "A span is a page s that holds s+1 and a count n, and has pages s to s+n-1; a free page is in none, every other in exactly one."
+abbrev pub InSpan : List ℕ → ℕ → ℕ → Type 0
+InSpan t s g = (owner t s ≡ s + 1) × (s ≤ g) × (g < s + pageCount t s)
+
+pub record Pages (P : ℕ) (t : List ℕ) : Type 0 where
+  pub inside : (s g : ℕ) → InSpan t s g → g < P
+  pub free : (g : ℕ) → owner t g ≡ 0 → (s : ℕ) → ¬ (InSpan t s g)
+  pub used : (g : ℕ) → owner t g ≢ 0 → (s : ℕ) × InSpan t s g × ((r : ℕ) → InSpan t r g → r ≡ s)
+
+-- "Each accepted call that sets a slot answered the ledger's new value of it, and get that of its word.": L is the ledger after the call
+abbrev pub Answered : Call → Answer → Ledger → Type 0
+Answered Setup a L = Unit {0}
+Answered Audit a L = Unit {0}
+Answered (Open s) a L = Unit {0}
+Answered (Close s) a L = Unit {0}
+Answered (Allocate s i size p) a L = a ≡ Value (value L (L .slot s i))
+Answered (Copy s i j) a L = a ≡ Value (value L (L .slot s i))
+Answered (Clear s i) a L = a ≡ Value (value L (L .slot s i))
+Answered (Load s i j f) a L = a ≡ Value (value L (L .slot s i))
+Answered (Store s j f k) a L = Unit {0}
+Answered (Put s j f v) a L = Unit {0}
+Answered (Get s j f) a L = a ≡ Value (Records.word L (L .slot s j) f)
+Answered (LoadGlobal s i g) a L = a ≡ Value (value L (L .slot s i))
+Answered (StoreGlobal s g i) a L = Unit {0}
+Answered Start a L = Unit {0}
+Answered (ScanStack s) a L = Unit {0}
+Answered ScanGlobals a L = Unit {0}
+Answered MarkStep a L = Unit {0}
+Answered Finish a L = Unit {0}
+Answered SweepStep a L = Unit {0}
+
+-- "A sweep step that turns off the allocated bit at an address frees the record last born there.": how often, once or not at all, the call with
+-- event e frees the record x, from heap h to heap h′ and with L the ledger before it
+unfoldable pub frees : ℕ → Ledger → Heap → Event → Heap → ℕ
+frees x L h e h′ =
+    cond (eqb (lastBorn L (L .address x)) x) (turnedOff (effect e) (is allocated h (wordOf (L .address x))) (is allocated h′ (wordOf (L .address x)))) 0
+
+-- .. how many calls of a list do, on buffers of P pages
+unfoldable pub freesIn : ℕ → ℕ → Ledger → Heap → List Request → ℕ
+freesIn P x L h [] = 0
+freesIn P x L h (r ∷ rs) =
+    frees x L (onPages P h) (eventOn h r) (onPages P (step h r .heap)) + freesIn P x (feed (eventOn h r) L) (step h r .heap) rs
+
+-- .. and how many have since the last accepted setup, where n had before the list
+unfoldable pub freedSince : ℕ → ℕ → ℕ → Ledger → Heap → List Request → ℕ
+freedSince P x n L h [] = n
+freedSince P x n L h (r ∷ rs) =
+    freedSince P x (cond (lasting (effect (eventOn h r))) (n + frees x L (onPages P h) (eventOn h r) (onPages P (step h r .heap))) 0) (feed (eventOn h r) L)
+    (step h r .heap) rs
+
+abbrev pub freed : ℕ → ℕ → Heap → List Request → ℕ
+freed P x h rs = freedSince P x 0 empty h rs
+
+-- "A cycle runs from an accepted start to the next accepted sweep step that answers 0, 0, 0; a setup accepted before that breaks it off.":
+-- a cycle that ends within the list rs, made on buffers h
+pub record Cycle (h : Heap) (rs : List Request) : Type 0 where
+  pub before : List Request
+  pub first : Request
+  pub between : List Request
+  pub last : Request
+  pub later : List Request
+  pub list : rs ≡ before ++ (first ∷ (between ++ (last ∷ later)))
+  pub starts : eventOn (after h before) first ≡ Event.start
+  pub lasts : Each inCycle (events (step (after h before) first .heap) between)
+  pub ends : eventOn (after (step (after h before) first .heap) between) last ≡ Event.endCycle
+
+-- THE CLAIM about the list rs, made on buffers of P pages that an accepted setup left as h
+pub record Demand (P : ℕ) (h : Heap) (rs : List Request) : Type 0 where
+  -- after the list
+  pub matches : Matches (onPages P (after h rs)) (ledger h rs)
+  pub pages : Pages P (after h rs .table)
+  -- at each of its calls
+  pub answers : (p : Place rs) → T (accepted (answerAt h p)) → Answered (p .request .call) (answerAt h p) (ledgerAfter h p)
+  -- a sweep step that turns off the allocated bit of word w: the record last born there was born, and not freed before
+  pub sweeps : (p : Place rs) → eventAt h p ≡ Event.sweepStep → (w : ℕ) → T (is allocated (heapBefore P h p) w) → T (not (is allocated (heapAfter P h p) w)) →
+      let x = lastBorn (ledgerBefore h p) (addressOf w) in (0 < x) × (x ≤ ledgerBefore h p .count) × (freed P x h (p .before) ≡ 0)
+  -- "In a cycle that ends within the list, each record born before the start, not freed and not reachable by then, is freed by exactly one of its
+  -- sweep steps."
+  pub cycles : (C : Cycle h rs) (x : ℕ) → let L = ledger h (C .before) in 0 < x → x ≤ L .count → freed P x h (C .before) ≡ 0 → ¬ (Reachable L x) →
+      freesIn P x L (step (after h (C .before)) (C .first) .heap) (C .between) ≡ 1

@@ -1,0 +1,55 @@
+-- The ledger of demand 3, fed by calls: "The ledger is fed each call's arguments and, of its answer, only whether it was refused and the address
+-- that an allocation gave." The record type, its changes and what it reaches are those of the crate marking (specs/Ledger.antt there).
+use Prim.Native.Nat.{ℕ}
+use mathlib.Core.Bool.{Bool, cond}
+use lib.ListN.{getD}
+use lib.Dec.{eqb}
+use Rattle.marking.specs.Ledger.{Event}
+use Rattle.model.specs.Memory.{Heap, lent}
+use Rattle.model.specs.Answers.{numbers}
+use Rattle.model.specs.Classes.{classOf, pagesFor, elementWordsOf}
+use Rattle.model.specs.Calls.{Call, Setup, Audit, Start, ScanGlobals, MarkStep, Finish, SweepStep, Open, Close, ScanStack, Clear, Copy, Get, LoadGlobal, StoreGlobal, Allocate, Load, Store, Put}
+use Rattle.model.specs.declared.Answer.{Answer}
+
+-- the refusal's number of an answer, 0 if the call was accepted, and its first value
+abbrev pub refusal : Answer → ℕ
+refusal a = getD (numbers a) 0 0
+
+abbrev pub firstValue : Answer → ℕ
+firstValue a = getD (numbers a) 1 0
+
+abbrev pub accepted : Answer → Bool
+accepted a = eqb (refusal a) 0
+
+-- the words "of the element that the size takes"
+abbrev pub wordsOf : ℕ → ℕ
+wordsOf size = elementWordsOf (classOf size) (pagesFor size)
+
+-- an accepted call as the ledger sees it
+abbrev pub eventOf : Call → Answer → Event
+eventOf Setup a = Event.setup
+eventOf Audit a = Event.audit
+eventOf (Open s) a = Event.openStack s
+eventOf (Close s) a = Event.closeStack s
+eventOf (Allocate s i size p) a = Event.allocate s i p (wordsOf size) (firstValue a)
+eventOf (Copy s i j) a = Event.copy s i j
+eventOf (Clear s i) a = Event.clear s i
+eventOf (Load s i j f) a = Event.load s i j f
+eventOf (Store s j f k) a = Event.store s j f k
+eventOf (Put s j f v) a = Event.put s j f v
+eventOf (Get s j f) a = Event.get s j f
+eventOf (LoadGlobal s i g) a = Event.loadGlobal s i g
+eventOf (StoreGlobal s g i) a = Event.storeGlobal s g i
+eventOf Start a = Event.start
+eventOf (ScanStack s) a = Event.scanStack s
+eventOf ScanGlobals a = Event.scanGlobals
+eventOf MarkStep a = cond (eqb (firstValue a) 0) Event.noneGray Event.markStep
+eventOf Finish a = Event.finish
+eventOf SweepStep a = cond (eqb (firstValue a) 0) Event.endCycle Event.sweepStep
+
+abbrev pub event : Call → Answer → Event
+event c a = cond (accepted a) (eventOf c a) Event.refused
+
+-- the four buffers as a heap of P pages
+abbrev pub onPages : ℕ → Heap → Heap
+onPages P h = lent P (h .arena) (h .table) (h .bits) (h .roots)

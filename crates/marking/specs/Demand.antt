@@ -1,0 +1,137 @@
+-- DEMAND 3, proved: after a setup and any list of calls, among them further setups, the claim of the file Claim holds.
+use mathlib.Core.Path.{_≡_, refl, _∙_}
+use mathlib.Core.Bool.{Bool, true, false, not, cond, _&&_}
+use mathlib.Core.Logic.{inl, inr}
+use mathlib.Core.List.{List}
+use Prim.Native.Nat.{ℕ, suc, _≤_, _<_}
+use native.Mathlib.Omega.{arith}
+use lib.Dec.{T, eqb}
+use Rattle.marking.specs.Updates.{of-true, of-false, eqb-yes}
+use Rattle.marking.specs.Effect.{inCycle, inMarking, asNumber, inCycle-lasting, inMarking-lasting}
+use Rattle.marking.specs.Calls
+use Rattle.marking.specs.Calls.{State, marking, run, runs}
+use Rattle.marking.specs.Safety.{run-keeps}
+use Rattle.marking.specs.Count.{count, count-le}
+use Rattle.marking.specs.Work.{work-bounded}
+use Rattle.marking.specs.Cycle.{freed-once, start-born}
+use Rattle.marking.specs.Heap.{addressOf, wordOf, Heap}
+use Rattle.marking.specs.Represents.{Layout, Live}
+use Rattle.marking.specs.Ledger.{Ledger, Event, Each, feed, feedAll, empty, Reachable, lastBorn}
+use Rattle.marking.specs.Trace.{Step, Steps, setup, start, endCycle, get}
+use Rattle.marking.specs.Trace
+use Rattle.marking.specs.Agreement.{Agrees}
+use Rattle.marking.specs.Refinement.{after, agree, phased, step-start, step-endCycle}
+use Rattle.marking.specs.Claim.{Demand, freedIn, answer, given, expected, freedDuring, freedSince, isAllocated, workIn}
+use Rattle.marking.specs.Matches.{matches, back, got, at-is}
+use Rattle.marking.specs.Freed.{Reached, reached, fresh-reached, Within, within, last-is, Tally, isAllocated-is}
+
+start-marks : (S : State) → T (marking ((run Calls.start S) .phase))
+unfolding run
+start-marks S = tt
+
+module _ {H : Heap} {L : Ledger} {S : State} {Y : Layout} (R : Agrees H L S Y) where
+  answers : {e : Event} {H′ : Heap} → Step H e H′ → given (answer e) H′ ≡ expected (answer e) (feed e L)
+  unfolding feed
+  answers Trace.refused = refl
+  answers Trace.audit = refl
+  answers (setup H′ F) = refl
+  answers (Trace.openStack s A) = refl
+  answers (Trace.closeStack s A) = refl
+  answers (Trace.allocate s i p n w a E u A o h b c d k m q r v) = matches
+      (after R (Trace.allocate s i p n w a E u A o h b c d k m q r v)) .slots s i
+  answers (Trace.copy s i j A o h) = matches (after R (Trace.copy s i j A o h)) .slots s i
+  answers (Trace.clear s i A o h) = matches (after R (Trace.clear s i A o h)) .slots s i
+  answers (Trace.load s i j f A o h z b) = matches (after R (Trace.load s i j f A o h z b)) .slots s i
+  answers (Trace.loadGlobal s i g A o h) = matches (after R (Trace.loadGlobal s i g A o h)) .slots s i
+  answers (Trace.store s j f k A z b) = refl
+  answers (Trace.put s j f v A z b c) = refl
+  answers (get s j f z b c) = got R s j f z b c
+  answers (Trace.storeGlobal s g i A h) = refl
+  answers (start A p) = refl
+  answers (Trace.scanStack s A p) = refl
+  answers (Trace.rescanStack s p g) = refl
+  answers (Trace.scanGlobals A p) = refl
+  answers (Trace.rescanGlobals p g) = refl
+  answers (Trace.markStep w A p g) = refl
+  answers Trace.noneGray = refl
+  answers (Trace.finish u A p g gg gs h) = refl
+  answers (Trace.sweepStep q E A p d c) = refl
+  answers (endCycle A p h) = refl
+
+  -- a cycle: start, calls that neither end it nor break it off, and the sweep step that ends it
+  cycle : {H₁ H₂ H₃ : Heap} {es : List Event} → Step H Event.start H₁ → (ss : Steps H₁ es H₂) → Each inCycle es →
+      Step H₂ Event.endCycle H₃ →
+      (x : ℕ) → 0 < x → x < S .graph .born → T (S .allocated x) → ¬ (Reachable L x) → freedDuring x L ss ≡ 1
+  cycle {H₁} {H₂} {H₃} {es} (start A p) ss w (endCycle B q f) x h k a u = go
+      (within inCycle inCycle-lasting ss w (agree R (step-start R A p)))
+    where
+      go : Within inCycle (workIn es) H₂ (feedAll es L) (run Calls.start S) (λ x. freedDuring x L ss) → freedDuring x L ss ≡ 1
+      go W = W .frees x h (omega (arith, start-born S)) ∙
+          freed-once S (R .invariant) (W .calls) (W .each) (step-start R A p .allowed) (W .allowed) (step-endCycle (W .agrees) B q f .allowed) x k a
+          (λ r. elim (back R r) [ inl e ↦ omega arith | inr y ↦ u y ])
+
+  -- the mark steps that do work, up to the finish
+  bound : {H₁ H₂ H₃ : Heap} {es : List Event} → Step H Event.start H₁ → (ss : Steps H₁ es H₂) → Each inMarking es →
+      Step H₂ Event.finish H₃ →
+      workIn es ≤ count (isAllocated (feedAll es L) H₂) (suc (feedAll es L .count))
+  bound {H₁} {H₂} {H₃} {es} (start A p) ss w t = go (within inMarking inMarking-lasting ss w (agree R (step-start R A p)))
+    where
+      go : Within inMarking (workIn es) H₂ (feedAll es L) (run Calls.start S) (λ x. freedDuring x L ss) →
+          workIn es ≤ count (isAllocated (feedAll es L) H₂) (suc (feedAll es L .count))
+      go W =
+          let Z = runs (W .calls) (run Calls.start S) in
+          rw (← (W .agrees .describes .born)) (omega (
+            arith,
+            W .work,
+            work-bounded (W .calls) (run Calls.start S) (W .each) (W .allowed) (run-keeps Calls.start S (phased R p) (R .invariant)) (start-marks S),
+            count-le (Z .allocated) (isAllocated (feedAll es L) H₂) (Z .graph .born) (λ x h k a. rw (isAllocated-is (W .agrees) x h k) a),
+          ))
+
+  -- an allocated bit stands at the record last born there
+  at-bit : (w : ℕ) → T (H .allocated w) → Live (S .allocated) (lastBorn L (addressOf w)) × (Y .at (lastBorn L (addressOf w)) ≡ w)
+  at-bit w a = go (R .represents .placed .only w a)
+    where
+      go : (x : ℕ) × Live (S .allocated) x × (Y .at x ≡ w) →
+          Live (S .allocated) (lastBorn L (addressOf w)) × (Y .at (lastBorn L (addressOf w)) ≡ w)
+      go r =
+          let e : L .address (r .0) ≡ addressOf w = rw (← (r .2)) (R .describes .address (r .0) (r .1 .0) (R .invariant .allocatedBorn (r .0) (r .1 .1))) in
+          rw (← e, last-is R (r .0) (r .1)) (r .1, r .2)
+
+  frees : (n : ℕ → ℕ) → ((x : ℕ) → 0 < x → Tally x (n x) S) → (w : ℕ) → T (H .allocated w) →
+      (0 < lastBorn L (addressOf w)) × (lastBorn L (addressOf w) ≤ L .count) × (n (lastBorn L (addressOf w)) ≡ 0)
+  frees n t w a = go (lastBorn L (addressOf w)) (at-bit w a .0)
+    where
+      go : (x : ℕ) → Live (S .allocated) x → (0 < x) × (x ≤ L .count) × (n x ≡ 0)
+      go x l =
+          let b = R .invariant .allocatedBorn x (l .1) in
+          (l .0, omega (arith, R .describes .born), omega (arith, rw (of-true (S .allocated x) (l .1)) at (t x (l .0) .0 b)))
+
+  freed : (H′ : Heap) (w : ℕ) → T (H .allocated w) → T (not (H′ .allocated w)) →
+      freedIn (lastBorn L (addressOf w)) L H Event.sweepStep H′ ≡ 1
+  unfolding freedIn
+  freed H′ w a d = go (lastBorn L (addressOf w)) (at-bit w a)
+    where
+      go : (x : ℕ) → Live (S .allocated) x × (Y .at x ≡ w) →
+          cond (eqb (lastBorn L (L .address x)) x) (asNumber (H .allocated (wordOf (L .address x)) && not (H′ .allocated (wordOf (L .address x))))) 0 ≡ 1
+      go x l = rw (last-is R x (l .0), eqb-yes x, at-is R x (l .0), l .1, of-true (H .allocated w) a, of-false (H′ .allocated w) d)
+
+one-true : (b : Bool) → asNumber b ≡ 1 → T b
+one-true true e = tt
+one-true false e = absurd (omega arith)
+
+-- of what a list of calls has reached
+pub reached-demand : {H : Heap} {L : Ledger} {n : ℕ → ℕ} → Reached H L n → Demand H L n
+reached-demand {H} {L} {n} N = record {
+  matches = matches (N .agrees);
+  answers = λ s. answers (N .agrees) s;
+  frees = λ s w a _. frees (N .agrees) n (N .tally) w a;
+  freed = λ {H′} s w a d. freed (N .agrees) H′ w a d;
+  works = λ s ss w t. bound (N .agrees) s ss w t;
+  cycles = λ s ss w t x h k f u. let b : x < N .state .graph .born = omega (arith, N .agrees .describes .born) in
+      cycle (N .agrees) s ss w t x h b (one-true (N .state .allocated x) (omega (arith, N .tally x h .0 b, f))) u;
+}
+
+-- THE THEOREM: after a setup and any list of calls
+pub demand-3 : {H₀ H₁ H₂ : Heap} {es : List Event} → Step H₀ Event.setup H₁ → (ss : Steps H₁ es H₂) →
+    Demand H₂ (feedAll es empty) (λ x. freedSince x 0 empty ss)
+demand-3 (setup H₁ F) ss = reached-demand (reached ss (fresh-reached H₁ F))

@@ -1,0 +1,81 @@
+-- What a call does to a cycle, of all that it does. The events that the ledger is fed (Ledger) and the calls of the abstract heap
+-- (Calls) each have an effect; all that is said of cycles goes by it.
+use mathlib.Core.Bool.{Bool, true, false, not, _&&_}
+use Prim.Native.Nat.{ℕ}
+use lib.Dec.{T}
+
+-- works: a mark step that takes a gray record
+pub data Effect : Type 0 where
+  none setsUp starts works finishes sweeps ends : Effect
+
+-- every call but a setup
+abbrev pub lasting : Effect → Bool
+lasting none = true
+lasting setsUp = false
+lasting starts = true
+lasting works = true
+lasting finishes = true
+lasting sweeps = true
+lasting ends = true
+
+-- a call that neither ends a cycle nor breaks it off
+abbrev pub inCycle : Effect → Bool
+inCycle none = true
+inCycle setsUp = false
+inCycle starts = true
+inCycle works = true
+inCycle finishes = true
+inCycle sweeps = true
+inCycle ends = false
+
+-- a call between a start and its finish
+abbrev pub inMarking : Effect → Bool
+inMarking none = true
+inMarking setsUp = false
+inMarking starts = false
+inMarking works = true
+inMarking finishes = false
+inMarking sweeps = false
+inMarking ends = false
+
+abbrev pub asNumber : Bool → ℕ
+asNumber true = 1
+asNumber false = 0
+
+-- only a sweep step frees: what was allocated and is no more
+abbrev pub turnedOff : Effect → Bool → Bool → ℕ
+turnedOff none before after = 0
+turnedOff setsUp before after = 0
+turnedOff starts before after = 0
+turnedOff works before after = 0
+turnedOff finishes before after = 0
+turnedOff sweeps before after = asNumber (before && not after)
+turnedOff ends before after = 0
+
+-- mark steps that do work
+abbrev pub work : Effect → ℕ
+work none = 0
+work setsUp = 0
+work starts = 0
+work works = 1
+work finishes = 0
+work sweeps = 0
+work ends = 0
+
+pub inCycle-lasting : (e : Effect) → T (inCycle e) → T (lasting e)
+inCycle-lasting none t = tt
+inCycle-lasting setsUp t = t
+inCycle-lasting starts t = tt
+inCycle-lasting works t = tt
+inCycle-lasting finishes t = tt
+inCycle-lasting sweeps t = tt
+inCycle-lasting ends t = tt
+
+pub inMarking-lasting : (e : Effect) → T (inMarking e) → T (lasting e)
+inMarking-lasting none t = tt
+inMarking-lasting setsUp t = t
+inMarking-lasting starts t = tt
+inMarking-lasting works t = tt
+inMarking-lasting finishes t = tt
+inMarking-lasting sweeps t = tt
+inMarking-lasting ends t = tt

@@ -1,0 +1,162 @@
+-- A heap of words and bits, as functions of word numbers, and what each call does to it. The four buffers are seen as such a heap.
+use mathlib.Core.Path.{_≡_}
+use mathlib.Core.Bool.{Bool, true, false, not, cond, _&&_, _||_}
+use Prim.Native.Nat.{ℕ, zero, suc, _+_, _*_, _-_, _/_}
+use lib.Dec.{T, eqb}
+use Rattle.marking.specs.Graph.{slotCount}
+use Rattle.marking.specs.Updates.{update, update2}
+use Rattle.marking.specs.Calls.{Phase, off, mark, sweep, marking}
+
+-- "The address of arena word w is 8192 + 8w"
+abbrev pub firstAddress : ℕ
+firstAddress = 8192
+
+abbrev pub addressOf : ℕ → ℕ
+addressOf w = firstAddress + 8 * w
+
+-- the word at an address
+unfoldable pub wordOf : ℕ → ℕ
+wordOf a = (a - firstAddress) / 8
+
+-- the mark and gray bits; whether the globals and which stacks are gray
+pub record ColourBits : Type 0 where
+  pub marked : ℕ → Bool
+  pub gray : ℕ → Bool
+  pub grayGlobals : Bool
+  pub grayStack : ℕ → Bool
+
+-- what the page table and the pointer bits say of an element that starts at a word: is it scan, its pointer words, its words
+pub record Elements : Type 0 where
+  pub scan : ℕ → Bool
+  pub pointers : ℕ → ℕ
+  pub words : ℕ → ℕ
+
+-- arena words; which words have their allocated bit; the elements; which words lie in an unswept span; and the roots. A slot, a global or a
+-- pointer word holds an address, 0 for nil
+pub record Heap : Type 0 where
+  pub arena : ℕ → ℕ
+  pub allocated : ℕ → Bool
+  pub elements : Elements
+  pub unswept : ℕ → Bool
+  pub bits : ColourBits
+  pub slots : ℕ → ℕ → ℕ
+  pub globals : ℕ → ℕ
+  pub opened : ℕ → Bool
+  pub phase : Phase
+
+-- what an accepted call may take from the audit
+pub record Audited (H : Heap) : Type 0 where
+  pub markedAllocated : (w : ℕ) → T (H .bits .marked w) → T (H .allocated w)
+  pub grayMarked : (w : ℕ) → T (H .bits .gray w) → T (H .bits .marked w)
+  pub offUnmarked : H .phase ≡ off → (w : ℕ) → H .bits .marked w ≡ false
+  pub markSwept : T (marking (H .phase)) → (w : ℕ) → H .unswept w ≡ false
+
+-- the same is said of an element at word w
+abbrev pub Alike : Elements → Elements → ℕ → Type 0
+Alike E F w = (E .scan w ≡ F .scan w) × (E .pointers w ≡ F .pointers w) × (E .words w ≡ F .words w)
+
+-- "Shading nil or a marked record does nothing; a white record is marked, and made gray if its span is scan."
+unfoldable pub shadeBits : (ℕ → Bool) → ℕ → ColourBits → ColourBits
+shadeBits scan a B = record {
+  marked = λ w. cond (eqb a 0) (B .marked w) (B .marked w || eqb w (wordOf a));
+  gray = λ w. cond (eqb a 0) (B .gray w) (B .gray w || (eqb w (wordOf a) && (not (B .marked w) && scan w)));
+  grayGlobals = B .grayGlobals;
+  grayStack = B .grayStack;
+}
+
+-- g 0, g 1, .. g (n - 1) are shaded
+unfoldable pub shadeAllBits : (ℕ → Bool) → (ℕ → ℕ) → ℕ → ColourBits → ColourBits
+shadeAllBits scan g zero B = B
+shadeAllBits scan g (suc n) B = shadeBits scan (g n) (shadeAllBits scan g n B)
+
+-- parts changed
+abbrev pub withMarked : (ℕ → Bool) → ColourBits → ColourBits
+withMarked m B = record { marked = m; gray = B .gray; grayGlobals = B .grayGlobals; grayStack = B .grayStack }
+
+abbrev pub withGray : (ℕ → Bool) → ColourBits → ColourBits
+withGray g B = record { marked = B .marked; gray = g; grayGlobals = B .grayGlobals; grayStack = B .grayStack }
+
+abbrev pub withGrayGlobals : Bool → ColourBits → ColourBits
+withGrayGlobals b B = record { marked = B .marked; gray = B .gray; grayGlobals = b; grayStack = B .grayStack }
+
+abbrev pub withGrayStack : (ℕ → Bool) → ColourBits → ColourBits
+withGrayStack s B = record { marked = B .marked; gray = B .gray; grayGlobals = B .grayGlobals; grayStack = s }
+
+abbrev pub withArena : (ℕ → ℕ) → Heap → Heap
+withArena a H = record { arena = a; allocated = H .allocated; elements = H .elements; unswept = H .unswept; bits = H .bits; slots = H .slots; globals = H .globals; opened = H .opened; phase = H .phase }
+
+-- the page table and the allocated bits: which words are allocated, the elements, which words are unswept
+abbrev pub withSpans : (ℕ → Bool) → Elements → (ℕ → Bool) → Heap → Heap
+withSpans a E u H = record { arena = H .arena; allocated = a; elements = E; unswept = u; bits = H .bits; slots = H .slots; globals = H .globals; opened = H .opened; phase = H .phase }
+
+abbrev pub withBits : ColourBits → Heap → Heap
+withBits B H = record { arena = H .arena; allocated = H .allocated; elements = H .elements; unswept = H .unswept; bits = B; slots = H .slots; globals = H .globals; opened = H .opened; phase = H .phase }
+
+-- slots, globals, which stacks are open
+abbrev pub withRoots : (ℕ → ℕ → ℕ) → (ℕ → ℕ) → (ℕ → Bool) → Heap → Heap
+withRoots s g o H = record { arena = H .arena; allocated = H .allocated; elements = H .elements; unswept = H .unswept; bits = H .bits; slots = s; globals = g; opened = o; phase = H .phase }
+
+abbrev pub withPhase : Phase → Heap → Heap
+withPhase p H = record { arena = H .arena; allocated = H .allocated; elements = H .elements; unswept = H .unswept; bits = H .bits; slots = H .slots; globals = H .globals; opened = H .opened; phase = p }
+
+-- THE CALLS: w is a word number, a an address
+-- slot i of stack t becomes a
+unfoldable pub heapAssign : (t i a : ℕ) → Heap → Heap
+heapAssign t i a H = withRoots (update2 (H .slots) t i a) (H .globals) (H .opened) H
+
+-- "in the mark phase, a store to a record or a global first shades the old value, then the new"
+abbrev pub barrier : Heap → ℕ → ℕ → ColourBits
+barrier H o a = cond (marking (H .phase)) (shadeBits (H .elements .scan) a (shadeBits (H .elements .scan) o (H .bits))) (H .bits)
+
+unfoldable pub heapStore : (w a : ℕ) → Heap → Heap
+heapStore w a H = withArena (update (H .arena) w a) (withBits (barrier H (H .arena w) a) H)
+
+unfoldable pub heapStoreGlobal : (g a : ℕ) → Heap → Heap
+heapStoreGlobal g a H = withRoots (H .slots) (update (H .globals) g a) (H .opened) (withBits (barrier H (H .globals g) a) H)
+
+-- word w becomes the number n
+unfoldable pub heapPut : (w n : ℕ) → Heap → Heap
+heapPut w n H = withArena (update (H .arena) w n) H
+
+abbrev pub stackScanned : ℕ → ColourBits → ColourBits
+stackScanned t B = withGrayStack (update (B .grayStack) t false) B
+
+-- stack t is opened (b true) or closed, with all slots nil
+unfoldable pub heapResetStack : (t : ℕ) (b : Bool) → Heap → Heap
+heapResetStack t b H = withRoots (update (H .slots) t (λ i. 0)) (H .globals) (update (H .opened) t b)
+    (withBits (stackScanned t (H .bits)) H)
+
+unfoldable pub heapStart : Heap → Heap
+heapStart H = withPhase mark (withBits (withGrayGlobals true (withGrayStack (H .opened) (H .bits))) H)
+
+unfoldable pub heapScanStack : ℕ → Heap → Heap
+heapScanStack t H = withBits (stackScanned t (shadeAllBits (H .elements .scan) (H .slots t) slotCount (H .bits))) H
+
+-- the first n globals
+unfoldable pub heapScanGlobals : ℕ → Heap → Heap
+heapScanGlobals n H = withBits (shadeAllBits (H .elements .scan) (H .globals) n (withGrayGlobals false (H .bits))) H
+
+-- the record at word w, which has p pointer words
+unfoldable pub heapMarkStep : (w p : ℕ) → Heap → Heap
+heapMarkStep w p H = withBits
+    (shadeAllBits (H .elements .scan) (λ f. H .arena (w + f)) p (withGray (update (H .bits .gray) w false) (H .bits))) H
+
+-- the words of `unswept` are then unswept
+unfoldable pub heapFinish : (unswept : ℕ → Bool) → Heap → Heap
+heapFinish unswept H = withPhase sweep (withSpans (H .allocated) (H .elements) unswept H)
+
+-- a span with the words q is swept; the elements are then E
+unfoldable pub heapSweep : (q : ℕ → Bool) (E : Elements) → Heap → Heap
+heapSweep q E H =
+    withSpans (λ w. cond (q w) (H .bits .marked w) (H .allocated w)) E (λ w. cond (q w) false (H .unswept w))
+    (withBits (withMarked (λ w. cond (q w) false (H .bits .marked w)) (H .bits)) H)
+
+unfoldable pub heapEndCycle : Heap → Heap
+heapEndCycle H = withPhase off H
+
+-- a record is born at word w, black in the mark phase, and slot i of stack t names it; arena, elements and unswept words are then as given
+unfoldable pub heapAllocate : (t i w : ℕ) (arena : ℕ → ℕ) (E : Elements) (unswept : ℕ → Bool) → Heap → Heap
+heapAllocate t i w arena E unswept H =
+    withArena arena (withSpans (update (H .allocated) w true) E unswept
+    (withBits (withMarked (cond (marking (H .phase)) (update (H .bits .marked) w true) (H .bits .marked)) (H .bits))
+    (withRoots (update2 (H .slots) t i (addressOf w)) (H .globals) (H .opened) H)))

@@ -1,0 +1,1 @@
+// The theory of marking: theorems about a collected heap (specs/), and no function.
