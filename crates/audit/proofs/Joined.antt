@@ -1,0 +1,48 @@
+-- The parts of the audit joined: what each part may assume of those before it, and what a part that says no, or the last that says yes, comes to.
+use mathlib.Core.Bool.{Bool, true, false}
+use mathlib.Core.Path.{_≡_, refl}
+use lib.Dec.{T}
+use lib.ListN.{getD}
+use Rattle.model.specs.Memory.{Heap}
+use Rattle.model.specs.Audit.{audit}
+use Rattle.model.proofs.Tests.{is-true, same-test}
+use Rattle.model.proofs.Spans.{Spans}
+use Rattle.model.proofs.Facts.{Sized, Bits, Phases, States, Occupied, Audited}
+use Rattle.model.proofs.Audit.{audit-facts, facts-audit}
+use Rattle.audit_pages.specs.Pages.{Pages}
+use Rattle.audit_bits.specs.Needs.{Lent}
+use Rattle.audit_words.specs.Contents.{Spanned, Filled, Roots, Contents}
+
+module _ (h : Heap) (Z : Sized h) where
+  -- a part says no
+  pub refused : (Audited h → ⊥) → false ≡ audit h
+  refused f = go (audit h) refl
+    where
+      go : (b : Bool) → audit h ≡ b → false ≡ b
+      go true e = absurd (f (audit-facts h Z (is-true _ e)))
+      go false e = refl
+
+  -- the last part decides
+  pub decided : (r : Bool) → (T r → Audited h) → (Audited h → T r) → r ≡ audit h
+  decided r f g = same-test r (audit h) (λ x. facts-audit h (f x)) (λ x. g (audit-facts h Z x))
+
+  -- after the page table
+  pub tabled : Spans (h .pages) (h .table) → Lent (h .pages) (h .table) (h .bits)
+  tabled F = record { bitmaps = record { few = Z .high; long = Z .bits }; table = Z .table; spans = F }
+
+  pub spanned : Spans (h .pages) (h .table) → Spanned (h .pages) (h .table) (h .bits)
+  spanned F = record { high = Z .high; table = Z .table; bits = Z .bits; spans = F }
+
+  -- after the bits
+  pub filled : Spans (h .pages) (h .table) → Bits (h .pages) (h .table) (h .bits) → Filled (h .pages) (h .arena) (h .table) (h .bits)
+  filled F B = record { spanned = spanned F; arena = Z .arena; set = B }
+
+  pub joined : States (h .roots) → Pages (h .pages) (getD (h .roots) 561 0) (h .table) →
+      Bits (h .pages) (h .table) (h .bits) × Phases (h .pages) (getD (h .roots) 561 0) (h .table) (h .bits) → Occupied (h .pages) (h .table) (h .bits) →
+      Roots (h .pages) (h .table) (h .bits) (h .roots) → Contents (h .pages) (h .arena) (h .table) (h .bits) → Audited h
+  joined S F B O R C =
+      record { sized = Z; spans = F .spans; bits = B .0; phases = B .1; references = record { root = R; content = C }; states = S; occupied = O }
+
+-- what the page table's part says of an audited heap
+pub paged : (h : Heap) → Audited h → Pages (h .pages) (getD (h .roots) 561 0) (h .table)
+paged h F = record { spans = F .spans; swept = F .phases .swept }

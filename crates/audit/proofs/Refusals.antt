@@ -1,0 +1,36 @@
+-- The entry check: what its two refusals and its acceptance are.
+use Prim.Native.Nat.{_*_, _≤_}
+use mathlib.Core.Bool.{Bool, true, false}
+use mathlib.Core.Logic.{_↔_}
+use mathlib.Core.Path.{_≡_, refl}
+use lib.Dec.{T, eqb}
+use lib.ListN.{length}
+use Rattle.model.specs.Memory.{Heap, goodBuffers}
+use Rattle.model.specs.Answers.{_given_, _orElse_}
+use Rattle.model.specs.Audit.{audit}
+use Rattle.model.specs.Calls.{entry}
+use Rattle.model.proofs.Tests.{is-true, of-true, eqb-iff}
+use Rattle.model.proofs.Facts.{Sized}
+use Rattle.model.proofs.Audit.{sized, sized-good}
+
+module _ (h : Heap) where
+  pub last-length : 1 ≤ h .pages → h .pages ≤ 256 → length (h .arena) ≡ 1024 * h .pages → length (h .table) ≡ 3 * h .pages → length (h .bits) ≡ 64 * h .pages →
+      T (eqb (length (h .roots)) 562) ↔ Sized h
+  last-length l m a t b =
+      (λ x. record { low = l; high = m; arena = a; table = t; bits = b; roots = eqb-iff (length (h .roots)) 562 .0 x }, λ Z. eqb-iff (length (h .roots)) 562 .1 (Z .roots))
+
+  pub bad-buffers : (Sized h → ⊥) → 1 ≡ entry h
+  unfolding entry _given_ _orElse_
+  bad-buffers f = rw (no (goodBuffers h) refl)
+    where
+      no : (b : Bool) → goodBuffers h ≡ b → goodBuffers h ≡ false
+      no true e = absurd (f (sized h (is-true _ e)))
+      no false e = e
+
+  pub damaged-buffers : Sized h → audit h ≡ false → 12 ≡ entry h
+  unfolding entry _given_ _orElse_
+  damaged-buffers Z e = rw (of-true (goodBuffers h) (sized-good h Z), e)
+
+  pub good-entry : Sized h → audit h ≡ true → 0 ≡ entry h
+  unfolding entry _given_ _orElse_
+  good-entry Z e = rw (of-true (goodBuffers h) (sized-good h Z), e)

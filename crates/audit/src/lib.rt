@@ -1,0 +1,79 @@
+// The audit and the entry check: the question that every call after setup asks first. The page table
+// is passed before the bits, and the bits before what they lead to, so that each part may rely on
+// the one before it.
+ghost use mathlib.Core.Logic.{_↔_};
+ghost use mathlib.Core.Path.{_≡_};
+ghost use lib.Dec.{T};
+ghost use Rattle.model.specs.Memory.{lent};
+ghost use Rattle.model.specs.Audit.{audit};
+ghost use Rattle.model.specs.Calls.{entry};
+ghost use Rattle.model.proofs.Facts.{Sized};
+use units::BAD_BUFFERS;
+use units::BITMAP_WORDS;
+use units::DAMAGED;
+use units::ENTRY_NUMBERS;
+use units::MAX_PAGES;
+use units::PAGE_WORDS;
+use units::PHASE;
+use units::ROOT_WORDS;
+
+// P is 1 to 256, and the four buffers have its lengths.
+pub fn buffers_ok(p: u64, arena: &[u64], table: &[u32], bits: &[u64], roots: &[u64]) -> bool
+    ensures { λ r. ⌜ (T r ↔ Sized (lent p (now (arena .entry)) (now (table .entry)) (now (bits .entry)) (now (roots .entry)))) ⌝ }
+{
+    if p < 1 {
+        return false;
+    }
+    if (MAX_PAGES as u64) < p {
+        return false;
+    }
+    let n = p as usize;
+    if arena.len() != PAGE_WORDS * n {
+        return false;
+    }
+    if table.len() != ENTRY_NUMBERS * n {
+        return false;
+    }
+    if bits.len() != BITMAP_WORDS * n {
+        return false;
+    }
+    roots.len() == ROOT_WORDS
+}
+
+// The audit says yes.
+pub fn audit(p: usize, arena: &[u64], table: &[u32], bits: &[u64], roots: &[u64]) -> bool
+    requires { ⌜ Sized (lent p (now arena) (now table) (now bits) (now roots)) ⌝ }
+    ensures { λ r. ⌜ r ≡ audit (lent p (now (arena .entry)) (now (table .entry)) (now (bits .entry)) (now (roots .entry))) ⌝ }
+{
+    if !audit_pages::states_ok(roots) {
+        return false;
+    }
+    let phase = roots[PHASE];
+    if !audit_pages::pages_ok(p, table, phase) {
+        return false;
+    }
+    if !audit_bits::bits_ok(p, table, bits, phase) {
+        return false;
+    }
+    if !audit_bits::occupied_ok(p, table, bits) {
+        return false;
+    }
+    if !audit_words::roots_ok(p, table, bits, roots) {
+        return false;
+    }
+    audit_words::contents_ok(p, arena, table, bits)
+}
+
+// The refusal that every call after setup gives first: 1 for P and the lengths, 12 for damaged
+// buffers, 0 for neither.
+pub fn entry(p: u64, arena: &[u64], table: &[u32], bits: &[u64], roots: &[u64]) -> u64
+    ensures { λ r. ⌜ r ≡ entry (lent p (now (arena .entry)) (now (table .entry)) (now (bits .entry)) (now (roots .entry))) ⌝ }
+{
+    if !buffers_ok(p, arena, table, bits, roots) {
+        return BAD_BUFFERS;
+    }
+    if !audit(p as usize, arena, table, bits, roots) {
+        return DAMAGED;
+    }
+    0
+}

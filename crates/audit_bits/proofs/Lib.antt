@@ -1,0 +1,5 @@
+pub mod Blocks
+pub mod Masks
+pub mod SpanWords
+pub mod Stretches
+pub mod Turns

@@ -1,0 +1,128 @@
+-- The loops over blocks: one more block, and what stands at the beginning of each block of a span.
+use Prim.Native.Nat.{ℕ, _+_, _-_, _*_, _/_, _%_, _^_, _<_, _≤_}
+use mathlib.Core.Bool.{Bool, true, false, cond, _&&_}
+use mathlib.Core.List.{List}
+use mathlib.Core.Path.{_≡_, refl, sym, _∙_, ap}
+use native.Mathlib.Omega.{arith}
+use native.Mathlib.Nat.{zero-mod, add-mod-mod}
+use lib.Dec.{T, eqb, ltb, leb}
+use lib.ListN.{getD}
+use borrow.Author.Tests.{ltb-true, ltb-false, lt-ltb, le-ltb, eqb-true, eqb-false}
+use Rattle.model.specs.Bounded.{allBelow}
+use Rattle.model.specs.Bitmaps.{bitOf, pointer}
+use Rattle.model.proofs.Tests.{is-true, of-true}
+use Rattle.model.proofs.Bitmaps.{bit-zero}
+use Rattle.model.proofs.Bounded.{all-at, all-from, all-no, some-fails}
+use Rattle.model.proofs.Facts.{bit}
+use Rattle.bitmap.proofs.FirstFree.{starts-from}
+use Rattle.audit_blocks.specs.Block.{on}
+use Rattle.audit_blocks.proofs.Masks.{all-cong}
+use Rattle.audit_bits.specs.Rules.{blockRule, wordRule}
+use Rattle.audit_bits.proofs.Masks.{on-all, on-none, part-on}
+
+-- a test of every word, block by block: k blocks passed, and one more was tested
+module _ (R : ℕ → Bool) (k : ℕ) where
+  pub more : {r : Bool} → ((o : ℕ) → o < 64 * k → T (R o)) → r ≡ allBelow 64 (λ j. R (64 * k + j)) → r ≡ true → (o : ℕ) → o < 64 * (k + 1) → T (R o)
+  more f e p o l = go (ltb o (64 * k)) refl
+    where
+      go : (c : Bool) → ltb o (64 * k) ≡ c → T (R o)
+      go true q = f o (ltb-true o (64 * k) q)
+      go false q =
+          let m : 64 * k ≤ o = ltb-false o (64 * k) q in
+          let z : 64 * k + (o - 64 * k) ≡ o = omega arith in
+          rw z at (is-true _ (all-at 64 (λ j. R (64 * k + j)) (sym e ∙ p) (o - 64 * k) (omega arith)))
+
+  pub fails : {r : Bool} (n : ℕ) → k < n → r ≡ allBelow 64 (λ j. R (64 * k + j)) → r ≡ false → false ≡ allBelow (64 * n) R
+  fails n l e p =
+      let x = some-fails 64 (λ j. R (64 * k + j)) (sym e ∙ p) in
+      sym (all-no (64 * n) R (64 * k + x .0) (omega (arith, x .1)) (x .2))
+
+  pub passes : (n : ℕ) → n ≤ k → ((o : ℕ) → o < 64 * k → T (R o)) → true ≡ allBelow (64 * n) R
+  passes n l f = sym (all-from (64 * n) R (λ o m. of-true _ (f o (omega arith))))
+
+-- a block of a page
+pub page-block : (R : ℕ → Bool) (g k : ℕ) → allBelow 64 (λ j. R (64 * (16 * g + k) + j)) ≡ allBelow 64 (λ j. R (1024 * g + (64 * k + j)))
+page-block R g k = all-cong 64 (λ j. R (64 * (16 * g + k) + j)) (λ j. R (1024 * g + (64 * k + j))) (λ j l. ap R (omega arith))
+
+-- what stands at the beginning of block k of the span at page s
+pub record Stands (P : ℕ) (b : List ℕ) (s size held : ℕ) (marks grays scan : Bool) (k off left before : ℕ) : Type 0 where
+  pub near : off < size
+  pub start : (64 * k + off) % size ≡ 0
+  pub remains : left ≡ held - 64 * k
+  pub last : on before 0 ≡ (ltb 0 (64 * k) && bit P pointer b (1024 * s + (64 * k - 1)))
+  pub done : (o : ℕ) → o < 64 * k → T (wordRule P b (1024 * s) size held marks grays scan o)
+
+-- the highest bit of a word
+top-on : (x : ℕ) → on (x / 2 ^ 63) 0 ≡ on x 63
+unfolding bitOf
+top-on x = ap (λ y. eqb y 1) (bit-zero (x / 2 ^ 63))
+
+-- a mask for all words or for none
+pub on-flag : (c : Bool) (j : ℕ) → j < 64 → on (cond c (2 ^ 64 - 1) 0) j ≡ c
+on-flag true j l = on-all j l
+on-flag false j l = on-none j
+
+module _ (P : ℕ) (b : List ℕ) (s size held : ℕ) (marks grays scan : Bool) where
+  pub stands-first : 0 < size → Stands P b s size held marks grays scan 0 0 held 0
+  stands-first h =
+      record { near = h; start = zero-mod size; remains = omega arith; last = on-none 0; done = λ o l. absurd (omega arith) }
+
+  module _ (mask : ℕ) (ms : (j : ℕ) → j < 64 → bitOf mask j ≡ cond (eqb (j % size) 0) 1 0) where
+    on-mask : (j : ℕ) → j < 64 → on mask j ≡ eqb (j % size) 0
+    on-mask j l = rw (ms j l) (go (eqb (j % size) 0))
+      where
+        go : (c : Bool) → eqb (cond c 1 0) 1 ≡ c
+        go true = refl
+        go false = refl
+
+    module _ {k off left before : ℕ} (x : Stands P b s size held marks grays scan k off left before) where
+      inside-is : (j : ℕ) → ltb j left ≡ ltb (64 * k + j) held
+      inside-is j = go (ltb j left) refl
+        where
+          go : (c : Bool) → ltb j left ≡ c → c ≡ ltb (64 * k + j) held
+          go true p = sym (lt-ltb (64 * k + j) held (omega (arith, ltb-true j left p, x .remains)))
+          go false p = sym (le-ltb (64 * k + j) held (omega (arith, ltb-false j left p, x .remains)))
+
+      start-is : (j : ℕ) → j < 64 → (leb off j && on mask (j - off)) ≡ eqb ((64 * k + j) % size) 0
+      start-is j l = rw (on-mask (j - off) (omega arith), starts-from size (64 * k) off j (x .near) (x .start))
+
+      follows-is : (j : ℕ) → cond (eqb j 0) (on before 0) (bit P pointer b (64 * (16 * s + k) + (j - 1))) ≡ (ltb 0 (64 * k + j) && bit P pointer b (1024 * s + (64 * k + j - 1)))
+      follows-is j = go (eqb j 0) refl
+        where
+          go : (c : Bool) → eqb j 0 ≡ c → cond c (on before 0) (bit P pointer b (64 * (16 * s + k) + (j - 1))) ≡ (ltb 0 (64 * k + j) && bit P pointer b (1024 * s + (64 * k + j - 1)))
+          go true p =
+              let e : 64 * k + j ≡ 64 * k = omega (arith, eqb-true j 0 p) in
+              rw e (x .last)
+          go false p =
+              let e : 64 * (16 * s + k) + (j - 1) ≡ 1024 * s + (64 * k + j - 1) = omega (arith, eqb-false j 0 p) in
+              rw (e, lt-ltb 0 (64 * k + j) (omega (arith, eqb-false j 0 p)))
+
+      pub block-words : {mark-mask gray-mask scan-mask : ℕ} {r : Bool} → mark-mask ≡ cond marks (2 ^ 64 - 1) 0 → gray-mask ≡ cond grays (2 ^ 64 - 1) 0 → scan-mask ≡ cond scan (2 ^ 64 - 1) 0 →
+          r ≡ allBelow 64 (blockRule P b (16 * s + k) mask off left before mark-mask gray-mask scan-mask) → r ≡ allBelow 64 (λ j. wordRule P b (1024 * s) size held marks grays scan (64 * k + j))
+      block-words f g h e = (rw (f, g, h) at e) ∙ all-cong 64 _ (λ j. wordRule P b (1024 * s) size held marks grays scan (64 * k + j)) word
+        where
+          word : (j : ℕ) → j < 64 → blockRule P b (16 * s + k) mask off left before (cond marks (2 ^ 64 - 1) 0) (cond grays (2 ^ 64 - 1) 0) (cond scan (2 ^ 64 - 1) 0) j ≡ wordRule P b (1024 * s) size held marks grays scan (64 * k + j)
+          word j l =
+              let e : 64 * (16 * s + k) + j ≡ 1024 * s + (64 * k + j) = omega arith in
+              rw (e, start-is j l, inside-is j, on-flag marks j l, on-flag grays j l, on-flag scan j l, follows-is j)
+
+      pub stands-next : 16 * s + k < 16 * P → (r : ℕ) → r < size → (r + 64) % size ≡ off → {ok : Bool} →
+          ok ≡ allBelow 64 (λ j. wordRule P b (1024 * s) size held marks grays scan (64 * k + j)) → ok ≡ true →
+          Stands P b s size held marks grays scan (k + 1) r (left - 64) (getD b ((3 * (16 * P) + 16 * s) + k) 0 / 2 ^ 63)
+      stands-next h r l o e p = record {
+        near = l;
+        start = again;
+        remains = omega (arith, x .remains);
+        last = last;
+        done = more (wordRule P b (1024 * s) size held marks grays scan) k (x .done) e p;
+      }
+        where
+          again : (64 * (k + 1) + r) % size ≡ 0
+          again =
+              let e : 64 * (k + 1) + r ≡ 64 * k + (r + 64) = omega arith in
+              rw (e, ← add-mod-mod (64 * k) (r + 64) size, o) (x .start)
+
+          last : on (getD b ((3 * (16 * P) + 16 * s) + k) 0 / 2 ^ 63) 0 ≡ (ltb 0 (64 * (k + 1)) && bit P pointer b (1024 * s + (64 * (k + 1) - 1)))
+          last =
+              let e : 64 * (16 * s + k) + 63 ≡ 1024 * s + (64 * (k + 1) - 1) = omega arith in
+              rw (lt-ltb 0 (64 * (k + 1)) (omega arith), ← e) (top-on (getD b ((3 * (16 * P) + 16 * s) + k) 0) ∙ part-on P b (16 * s + k) h pointer ((3 * (16 * P) + 16 * s) + k) 63 (omega arith) (omega arith))

@@ -1,0 +1,72 @@
+-- The invariant: k blocks of the page have no bit.
+use Prim.Native.Nat.{ℕ, _+_, _-_, _*_, _<_, _≤_}
+use mathlib.Core.Path.{_≡_, _∙_}
+use Rattle.model.specs.Bounded.{allBelow}
+use native.Mathlib.Omega.{arith}
+use lib.Dec.{T}
+use borrow.Author.Needs.{needs}
+use borrow.Author.Tests.{not-true, not-false}
+use Rattle.audit_bits.specs.Rules.{bare}
+use Rattle.audit_bits.proofs.Turns.{more, fails, passes, page-block}
+use Rattle.audit_bits.proofs.free_page_ok.Statement.{statement}
+use Rattle.audit_bits.proofs.free_page_ok.Tie as tie
+
+abbrev Inv-loop : tie.InvT-loop
+Inv-loop p bits g first k₀ k = (k ≤ 16) × ((o : ℕ) → o < 64 * k → T (bare p bits (1024 * g + o)))
+
+abbrev μ-loop : tie.MeasureT-loop
+μ-loop p bits g first k₀ k = 16 - k
+
+mul-first : tie.Need-mul-first Inv-loop μ-loop
+mul-first c = search needs
+
+loop-holds : tie.Need-loop-holds Inv-loop μ-loop
+loop-holds c = (search needs, λ o l. absurd (omega arith))
+
+add-at : tie.Need-add-at Inv-loop μ-loop
+add-at c = search needs
+
+add-k : tie.Need-add-k Inv-loop μ-loop
+add-k c = search needs
+
+empty-requires : tie.Need-empty-requires Inv-loop μ-loop
+empty-requires c κs = search needs
+
+-- block k of the page was tested
+tested : (c : tie.After-empty Inv-loop μ-loop) → let l = c .before .before in
+    let a = l .before .before .args in c .empty .result ≡ allBelow 64 (λ j. bare (a .p) (a .bits .now) (1024 * a .g + (64 * l .loop .k + j)))
+tested c =
+    let l = c .before .before in
+    let a = l .before .before .args in
+    c .empty .ensures ∙ page-block (bare (a .p) (a .bits .now)) (a .g) (l .loop .k)
+
+returns : tie.Need-returns Inv-loop μ-loop
+returns c = fails _ _ 16 (omega arith) (tested (c .before)) (not-true _ (c .if1 .taken))
+
+loop-less : tie.Need-loop-less Inv-loop μ-loop
+loop-less c = search needs
+
+loop-again : tie.Need-loop-again Inv-loop μ-loop
+loop-again c =
+    let l = c .before .before .before in
+    let a = l .before .before .args in
+    (search needs, more (λ o. bare (a .p) (a .bits .now) (1024 * a .g + o)) (l .loop .k) (l .loop .inv .1) (tested (c .before)) (not-false _ (c .if1 .left)))
+
+returns-2 : tie.Need-returns-2 Inv-loop μ-loop
+returns-2 c = passes _ _ 16 (omega arith) (c .before .loop .inv .1)
+
+pub free-page-ok-spec : {M : Type 1} → statement M
+free-page-ok-spec =
+    tie.close
+    (tie.spec
+    Inv-loop
+    μ-loop
+    mul-first
+    loop-holds
+    add-at
+    add-k
+    empty-requires
+    returns
+    loop-less
+    loop-again
+    returns-2)

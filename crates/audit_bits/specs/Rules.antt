@@ -1,0 +1,45 @@
+-- The audit's rules about the bits of one arena word: `keeps`, from its bits and from what is known of its place. `blockRule` knows the place
+-- from the masks of its block, `wordRule` from the span.
+use Prim.Native.Nat.{ℕ, _+_, _-_, _*_, _%_}
+use mathlib.Core.Bool.{Bool, _&&_, _||_, not, cond}
+use mathlib.Core.List.{List}
+use Rattle.model.specs.Bounded.{_==_, _<?_, _≤?_, _implies_}
+use Rattle.model.specs.Memory.{firstWord, mark, sweep}
+use Rattle.model.specs.Bitmaps.{allocated, marked, gray, pointer}
+use Rattle.model.specs.Spans.{elementWords, elements, isUnswept, isScan}
+use Rattle.model.proofs.Facts.{bit}
+use Rattle.audit_blocks.specs.Block.{on}
+
+-- word w has no bit in any part
+unfoldable pub bare : ℕ → List ℕ → ℕ → Bool
+bare P b w = not (bit P allocated b w) && not (bit P marked b w) && not (bit P gray b w) && not (bit P pointer b w)
+
+-- a word's bits are a, m, g and q; an element starts there, or it lies inside one; marks, gray bits and pointers may stand in its span; the word
+-- before it holds a pointer
+unfoldable pub keeps : Bool → Bool → Bool → Bool → Bool → Bool → Bool → Bool → Bool → Bool → Bool
+keeps a m g q start inside marks grays scan follows =
+    ((a implies start) && (m implies (a && marks)) && (g implies (m && grays)))
+    && ((q implies (inside && scan)) && (a && scan implies q) && (q && start implies (a && scan)) && (q && not start implies follows))
+
+-- word j of block `at`: elements start `off` words after its first and on, by the mask `starts`, and end `left` words after it; `before` has the
+-- pointer bit of the word before the block
+abbrev pub blockRule : ℕ → List ℕ → ℕ → ℕ → ℕ → ℕ → ℕ → ℕ → ℕ → ℕ → ℕ → Bool
+blockRule P b at starts off left before marks grays scans j =
+    keeps (bit P allocated b (64 * at + j)) (bit P marked b (64 * at + j)) (bit P gray b (64 * at + j)) (bit P pointer b (64 * at + j))
+    ((off ≤? j && on starts (j - off)) && j <? left) (j <? left) (on marks j) (on grays j) (on scans j)
+    (cond (j == 0) (on before 0) (bit P pointer b (64 * at + (j - 1))))
+
+-- word o of a span that begins at word v, whose elements have `size` words each and `held` together
+abbrev pub wordRule : ℕ → List ℕ → ℕ → ℕ → ℕ → Bool → Bool → Bool → ℕ → Bool
+wordRule P b v size held marks grays scan o =
+    keeps (bit P allocated b (v + o)) (bit P marked b (v + o)) (bit P gray b (v + o)) (bit P pointer b (v + o))
+    (o % size == 0 && o <? held) (o <? held) marks grays scan (0 <? o && bit P pointer b (v + (o - 1)))
+
+-- marks may stand in a span: "none in phase off, only in unswept spans in phase sweep"
+abbrev pub marksStand : ℕ → Bool → Bool
+marksStand phase unswept = phase == mark || (phase == sweep && unswept)
+
+-- the rules for word o of the span at page s
+abbrev pub spanRule : ℕ → ℕ → List ℕ → List ℕ → ℕ → ℕ → Bool
+spanRule P phase t b s =
+    wordRule P b (firstWord s) (elementWords t s) (elements t s * elementWords t s) (marksStand phase (isUnswept t s)) (phase == mark && isScan t s) (isScan t s)

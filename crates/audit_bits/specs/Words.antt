@@ -1,0 +1,31 @@
+-- What the audit says of the bits of one arena word: the records `Bits` and `Phases` of the model, at that word.
+use Prim.Native.Nat.{ℕ, _-_, _<_, _≤_}
+use mathlib.Core.Bool.{cond}
+use mathlib.Core.List.{List}
+use mathlib.Core.Logic.{_≢_}
+use mathlib.Core.Path.{_≡_}
+use lib.Dec.{T}
+use Rattle.model.specs.Bitmaps.{allocated, marked, gray, pointer}
+use Rattle.model.specs.Spans.{pageCount, spanOf, elementOf, isFree}
+use Rattle.model.proofs.Spans.{IsSpan, InElement, Element}
+use Rattle.model.proofs.Facts.{bit, scanAt, unsweptAt}
+
+pub record WordBits (P phase : ℕ) (t b : List ℕ) (w : ℕ) : Type 0 where
+  pub element : T (bit P allocated b w) → Element t w
+  pub marks : T (bit P marked b w) → T (bit P allocated b w) × (phase ≢ 0) × (phase ≡ 2 → T (unsweptAt t w))
+  pub grays : T (bit P gray b w) → T (bit P marked b w) × T (scanAt t w) × (phase ≡ 1)
+  pub pointers : T (bit P pointer b w) → InElement t w × T (scanAt t w) × T (bit P allocated b (elementOf t w))
+  pub head : T (bit P allocated b w) → T (scanAt t w) → T (bit P pointer b w)
+  pub run : T (bit P pointer b w) → elementOf t w ≢ w → T (bit P pointer b (w - 1))
+
+-- the pages of the span at page g; a free page alone
+abbrev pub stretch : List ℕ → ℕ → ℕ
+stretch t g = cond (isFree t g) 1 (pageCount t g)
+
+-- the words from one on, up to another
+abbrev pub GoodWords : ℕ → ℕ → List ℕ → List ℕ → ℕ → ℕ → Type 0
+GoodWords P phase t b from to = (w : ℕ) → from ≤ w → w < to → WordBits P phase t b w
+
+-- a span at page s has an allocated word
+abbrev pub Used : ℕ → List ℕ → List ℕ → ℕ → Type 0
+Used P t b s = IsSpan t s → (w : ℕ) × T (bit P allocated b w) × (spanOf t w ≡ s)

@@ -1,0 +1,207 @@
+-- The page table. `Upto` is what is known where the pass has come to page g; a step keeps it, a fault refutes the table, and at the end it is
+-- the whole table.
+use Prim.Native.Nat.{ℕ, _+_, _-_, _*_, _/_, _%_, _<_, _≤_}
+use mathlib.Core.Bool.{Bool, true, false, not}
+use mathlib.Core.List.{List}
+use mathlib.Core.Logic.{_≢_, _↔_}
+use mathlib.Core.Path.{_≡_, refl, sym, _∙_}
+use native.Mathlib.Omega.{arith}
+use lib.Dec.{T, eqb, ltb, leb}
+use lib.ListN.{length, List·getD-eq-default}
+use borrow.Author.Tests.{ltb-true, ltb-false, eqb-true, eqb-false}
+use Rattle.model.specs.Classes.{classPages}
+use Rattle.model.specs.Spans.{owner, pageCount, kindEntry}
+use Rattle.model.proofs.Tests.{eqb-iff, leb-iff}
+use Rattle.model.proofs.Spans.{IsSpan, GoodEntry, entry-fits}
+use Rattle.model.proofs.Answers.{no}
+use Rattle.audit_pages.specs.Pages.{Pages, Further, Body, First, Step}
+
+-- the entry of a span's first page: of a class with a page count of its own, of class 0
+module _ (kind count : ℕ) (f : kind < 512) (k : kind % 256 < 134) where
+  pub class-entry : (pages : ℕ) → kind % 256 / 2 ≢ 0 → pages ≡ classPages (kind % 256 / 2) → T (eqb count pages) ↔ GoodEntry kind count
+  class-entry pages d e =
+      (λ x. record { flag = f; kind = k; large = λ z. absurd (d z); small = λ _. eqb-iff count pages .0 x ∙ e }, λ G. eqb-iff count pages .1 (G .small d ∙ sym e))
+
+  pub large-entry : kind % 256 / 2 ≡ 0 → 5 ≤ count → T (leb count 128) ↔ GoodEntry kind count
+  large-entry z l = (λ x. record { flag = f; kind = k; large = λ _. (l, leb-iff count 128 .0 x); small = λ d. absurd (d z) }, λ G. leb-iff count 128 .1 (G .large z .1))
+
+-- page g, of whose numbers the first two are right
+pub further-iff : (t : List ℕ) (s g : ℕ) → owner t g ≡ s + 1 → pageCount t g ≡ 0 → T (eqb (kindEntry t g) 0) ↔ Further t s g
+further-iff t s g o n = (λ x. record { owned = o; count = n; kind = eqb-iff (kindEntry t g) 0 .0 x }, λ h. eqb-iff (kindEntry t g) 0 .1 (h .kind))
+
+-- .. so are those below g, and g
+pub body-more : (t : List ℕ) (s g e : ℕ) → ((k : ℕ) → s < k → k < g → k < e → Further t s k) → Further t s g → (k : ℕ) → s < k → k < g + 1 → k < e → Further t s k
+body-more t s g e f h k a b d = go (eqb k g) refl
+  where
+    go : (c : Bool) → eqb k g ≡ c → Further t s k
+    go true q = rw (eqb-true k g q) h
+    go false q = f k a (omega (arith, eqb-false k g q)) d
+
+-- a span has pages
+pub first-count : {p ph : ℕ} {t : List ℕ} {s : ℕ} → First p ph t s → 0 < pageCount t s
+first-count {p} {ph} {t} {s} f = entry-fits (kindEntry t s) (pageCount t s) (f .entry) .pages
+
+-- the whole table gives what is asked of each span
+pub first-of : {p ph : ℕ} {t : List ℕ} → Pages p ph t → (s : ℕ) → IsSpan t s → First p ph t s
+first-of {p} {ph} {t} F s e = record { entry = F .spans .entry s e; inside = F .spans .inside s e; body = body; swept = λ d. F .swept d s e }
+  where
+    body : Body t s
+    body g a b =
+        let o = F .spans .body s g e (omega arith) b in
+        let r = F .spans .rest g (omega arith) in
+        record { owned = o; count = r .0; kind = r .1 }
+
+-- a span's first page, of which the kind and the count are known
+module _ (p ph : ℕ) (t : List ℕ) (s kind count : ℕ) (k : kind ≡ kindEntry t s) (n : count ≡ pageCount t s) where
+  pub bad-entry : (b : Bool) → T b ↔ GoodEntry kind count → not b ≡ true → First p ph t s → ⊥
+  bad-entry b f e F = no b f e (rw (k, n) (F .entry))
+
+  pub bad-flag : (b : Bool) → T b ↔ (ph ≢ 2 → kind < 256) → not b ≡ true → First p ph t s → ⊥
+  bad-flag b f e F = no b f e (λ d. rw k (F .swept d))
+
+  pub first-iff : (b : Bool) → GoodEntry kind count → s + count ≤ p → (ph ≢ 2 → kind < 256) → T b ↔ Body t s → T b ↔ First p ph t s
+  first-iff b e i d f =
+      (λ x. record { entry = rw (k, n) at e; inside = rw n at i; body = f .0 x; swept = λ q. rw k at (d q) }, λ F. f .1 (F .body))
+
+-- a step at a page that starts a span
+module _ (p ph : ℕ) (t : List ℕ) (g : ℕ) (o : owner t g ≡ g + 1) where
+  pub bad-span : (First p ph t g → ⊥) → Step p ph t g 0
+  bad-span d = record { free = λ z. absurd (z refl); span = λ z. absurd (z refl); dirty = λ _ z. absurd (omega arith); bad = λ _ _. d }
+
+  pub good-span : (n : ℕ) → n ≡ pageCount t g → First p ph t g → Step p ph t g n
+  good-span n e F = record { free = λ _ z. absurd (omega arith); span = λ _ _. (o, e, F); dirty = λ _ z. absurd (omega arith); bad = λ z _ _. omega (arith, first-count F) }
+
+-- the pass has come to page g: the pages below it are as they should be, and no span goes on there
+pub record Upto (p ph : ℕ) (t : List ℕ) (g : ℕ) : Type 0 where
+  pub fit : g ≤ p
+  pub first : (s : ℕ) → s < g → IsSpan t s → First p ph t s × (s + pageCount t s ≤ g)
+  pub rest : (k : ℕ) → k < g → owner t k ≢ k + 1 → (pageCount t k ≡ 0) × (kindEntry t k ≡ 0)
+  pub whose : (k : ℕ) → k < g → 0 < owner t k → IsSpan t (owner t k - 1) × (owner t k - 1 ≤ k) × (k < owner t k - 1 + pageCount t (owner t k - 1))
+
+module _ (p ph : ℕ) (t : List ℕ) where
+  pub none : Upto p ph t 0
+  none = record { fit = omega arith; first = λ s l. absurd (omega arith); rest = λ k l. absurd (omega arith); whose = λ k l. absurd (omega arith) }
+
+  module _ (g : ℕ) (U : Upto p ph t g) (l : g < p) where
+    -- a step
+    module _ (n : ℕ) (S : Step p ph t g n) (d : n ≢ 0) where
+      free : owner t g ≡ 0 → Upto p ph t (g + n)
+      free z = record { fit = omega (arith, one); first = λ s m e. first s m e (ltb s g) refl; rest = λ k m e. rest k m e (ltb k g) refl; whose = λ k m u. whose k m u (ltb k g) refl }
+        where
+          one : n ≡ 1
+          one = S .free d z .0
+
+          here : (k : ℕ) → k < g + n → ltb k g ≡ false → k ≡ g
+          here k m e = omega (arith, one, ltb-false k g e)
+
+          first : (s : ℕ) → s < g + n → IsSpan t s → (b : Bool) → ltb s g ≡ b → First p ph t s × (s + pageCount t s ≤ g + n)
+          first s m e true q = let x = U .first s (ltb-true s g q) e in (x .0, omega (arith, x .1))
+          first s m e false q = absurd (omega (arith, rw (here s m q) at e))
+
+          rest : (k : ℕ) → k < g + n → owner t k ≢ k + 1 → (b : Bool) → ltb k g ≡ b → (pageCount t k ≡ 0) × (kindEntry t k ≡ 0)
+          rest k m e true q = U .rest k (ltb-true k g q) e
+          rest k m e false q = let f = S .free d z in rw (here k m q) (f .1, f .2)
+
+          whose : (k : ℕ) → k < g + n → 0 < owner t k → (b : Bool) → ltb k g ≡ b → IsSpan t (owner t k - 1) × (owner t k - 1 ≤ k) × (k < owner t k - 1 + pageCount t (owner t k - 1))
+          whose k m u true q = U .whose k (ltb-true k g q) u
+          whose k m u false q = absurd (omega (arith, rw (here k m q) at u))
+
+      span : owner t g ≢ 0 → Upto p ph t (g + n)
+      span z = record { fit = omega (arith, size, f .inside); first = λ s m e. first s m e (ltb s g) refl (eqb s g) refl; rest = λ k m e. rest k m e (ltb k g) refl (eqb k g) refl; whose = λ k m u. whose k m u (ltb k g) refl (eqb k g) refl }
+        where
+          f : First p ph t g
+          f = S .span d z .2
+
+          starts : owner t g ≡ g + 1
+          starts = S .span d z .0
+
+          size : n ≡ pageCount t g
+          size = S .span d z .1
+
+          body : (k : ℕ) → k < g + n → ltb k g ≡ false → eqb k g ≡ false → Further t g k
+          body k m q r = f .body k (omega (arith, ltb-false k g q, eqb-false k g r)) (omega (arith, size))
+
+          first : (s : ℕ) → s < g + n → IsSpan t s → (b : Bool) → ltb s g ≡ b → (c : Bool) → eqb s g ≡ c → First p ph t s × (s + pageCount t s ≤ g + n)
+          first s m e true q c r = let x = U .first s (ltb-true s g q) e in (x .0, omega (arith, x .1))
+          first s m e false q true r = rw (eqb-true s g r) (f, omega (arith, size))
+          first s m e false q false r = absurd (omega (arith, body s m q r .owned, eqb-false s g r))
+
+          rest : (k : ℕ) → k < g + n → owner t k ≢ k + 1 → (b : Bool) → ltb k g ≡ b → (c : Bool) → eqb k g ≡ c → (pageCount t k ≡ 0) × (kindEntry t k ≡ 0)
+          rest k m e true q c r = U .rest k (ltb-true k g q) e
+          rest k m e false q true r = absurd (e (rw (eqb-true k g r) starts))
+          rest k m e false q false r = let x = body k m q r in (x .count, x .kind)
+
+          whose : (k : ℕ) → k < g + n → 0 < owner t k → (b : Bool) → ltb k g ≡ b → (c : Bool) → eqb k g ≡ c → IsSpan t (owner t k - 1) × (owner t k - 1 ≤ k) × (k < owner t k - 1 + pageCount t (owner t k - 1))
+          whose k m u true q c r = U .whose k (ltb-true k g q) u
+          whose k m u false q true r =
+              let i : k ≡ g = eqb-true k g r in
+              let o : owner t g - 1 ≡ g = omega (arith, starts) in
+              rw (i, o) (starts, omega arith, omega (arith, first-count f))
+          whose k m u false q false r =
+              let o : owner t k - 1 ≡ g = omega (arith, body k m q r .owned) in
+              rw o (starts, omega (arith, ltb-false k g q), omega (arith, size))
+
+      pub step : Upto p ph t (g + n)
+      step = go (eqb (owner t g) 0) refl
+        where
+          go : (b : Bool) → eqb (owner t g) 0 ≡ b → Upto p ph t (g + n)
+          go true e = free (eqb-true (owner t g) 0 e)
+          go false e = span (eqb-false (owner t g) 0 e)
+
+    pub step-fits : (n : ℕ) → Step p ph t g n → g + n ≤ p
+    step-fits n S = go (eqb n 0) refl
+      where
+        go : (b : Bool) → eqb n 0 ≡ b → g + n ≤ p
+        go true e = omega (arith, eqb-true n 0 e)
+        go false e = step n S (eqb-false n 0 e) .fit
+
+    -- a fault
+    pub fault : Step p ph t g 0 → Pages p ph t → ⊥
+    fault S F = go (eqb (owner t g) 0) refl (eqb (owner t g) (g + 1)) refl
+      where
+        go : (a : Bool) → eqb (owner t g) 0 ≡ a → (b : Bool) → eqb (owner t g) (g + 1) ≡ b → ⊥
+        go true e b f = let z = eqb-true (owner t g) 0 e in S .dirty refl z (F .spans .rest g (omega arith))
+        go false e true f = let z = eqb-true (owner t g) (g + 1) f in S .bad refl z (first-of F g z)
+        go false e false f =
+            let w = F .spans .whose g (omega (arith, eqb-false (owner t g) 0 e)) in
+            let x = U .first (owner t g - 1) (omega (arith, eqb-false (owner t g) 0 e, eqb-false (owner t g) (g + 1) f)) (w .0) in
+            omega (arith, x .1, w .2)
+
+  -- a page past the end reads as free
+  past : length t ≡ 3 * p → (g : ℕ) → p ≤ g → (owner t g ≡ 0) × (pageCount t g ≡ 0) × (kindEntry t g ≡ 0)
+  unfolding owner pageCount kindEntry
+  past z g l = (List·getD-eq-default t 0 (omega arith), List·getD-eq-default t 0 (omega arith), List·getD-eq-default t 0 (omega arith))
+
+  -- the end
+  pub whole : length t ≡ 3 * p → Upto p ph t p → Pages p ph t
+  whole z U = record {
+    spans = record {
+      whose = λ g u. U .whose g (used g u) u;
+      body = body;
+      inside = λ s e. U .first s (spans s e) e .0 .inside;
+      rest = λ g d. rest g d (ltb g p) refl;
+      entry = λ s e. U .first s (spans s e) e .0 .entry;
+    };
+    swept = λ d s e. U .first s (spans s e) e .0 .swept d;
+  }
+    where
+      used : (g : ℕ) → 0 < owner t g → g < p
+      used g u = go (ltb g p) refl
+        where
+          go : (b : Bool) → ltb g p ≡ b → g < p
+          go true e = ltb-true g p e
+          go false e = absurd (omega (arith, past z g (ltb-false g p e) .0))
+
+      spans : (s : ℕ) → IsSpan t s → s < p
+      spans s e = used s (omega arith)
+
+      rest : (g : ℕ) → owner t g ≢ g + 1 → (b : Bool) → ltb g p ≡ b → (pageCount t g ≡ 0) × (kindEntry t g ≡ 0)
+      rest g d true e = U .rest g (ltb-true g p e) d
+      rest g d false e = let x = past z g (ltb-false g p e) in (x .1, x .2)
+
+      body : (s g : ℕ) → IsSpan t s → s ≤ g → g < s + pageCount t s → owner t g ≡ s + 1
+      body s g e a b = go (eqb s g) refl
+        where
+          go : (c : Bool) → eqb s g ≡ c → owner t g ≡ s + 1
+          go true q = let i = eqb-true s g q in rw (← i) e
+          go false q = U .first s (spans s e) e .0 .body g (omega (arith, eqb-false s g q)) b .owned

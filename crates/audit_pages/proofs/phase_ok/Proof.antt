@@ -1,0 +1,26 @@
+use Rattle.audit_pages.proofs.Stacks.{globals-gray, globals-scanned}
+use native.Mathlib.Omega.{arith}
+-- The state that is neither gray nor scanned is not legal.
+use borrow.Author.Needs.{needs}
+use Rattle.audit_pages.proofs.phase_ok.Statement.{statement}
+use Rattle.audit_pages.proofs.phase_ok.Tie as tie
+
+shared-slice-read-phase : tie.Need-shared-slice-read-phase
+shared-slice-read-phase c = search needs
+
+shared-slice-read-state : tie.Need-shared-slice-read-state
+shared-slice-read-state c = search needs
+
+returns : tie.Need-returns
+returns c = search needs
+
+returns-2 : tie.Need-returns-2
+returns-2 c = globals-gray _ (c .if2 .taken)
+
+returns-3 : tie.Need-returns-3
+returns-3 c = globals-scanned _ (omega arith) (c .if2 .left)
+
+pub phase-ok-spec : {M : Type 1} → statement M
+phase-ok-spec =
+    tie.close
+    (tie.spec shared-slice-read-phase shared-slice-read-state returns returns-2 returns-3)

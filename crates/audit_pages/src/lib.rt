@@ -1,0 +1,237 @@
+// The audit of what is small: the states of the stacks and of the globals, the phase, and the page
+// table. The page table is passed once, from span to span: where a span has ended, the next page is
+// free or starts a span, and nothing else may stand there.
+ghost use mathlib.Core.Path.{_≡_};
+ghost use mathlib.Core.Logic.{_↔_, _≢_};
+ghost use Prim.Native.Nat.{ℕ, _+_, _*_, _<_, _≤_};
+ghost use lib.Dec.{T};
+ghost use lib.ListN.{length};
+ghost use Rattle.model.specs.Memory.{maxPages, entryNumbers, rootWords, stacks, sweep};
+ghost use Rattle.model.specs.Spans.{pageCount, unsweptFlag};
+ghost use Rattle.model.proofs.Spans.{GoodEntry};
+ghost use Rattle.model.proofs.Facts.{States};
+ghost use Rattle.audit_pages.specs.Stacks.{Phase, Empty, Stack};
+ghost use Rattle.audit_pages.specs.Pages.{Pages, Further, Body, First, Step};
+use units::CLOSED;
+use units::FIRST_STATE;
+use units::GLOBALS_STATE;
+use units::GRAY;
+use units::MARK;
+use units::NIL;
+use units::PHASE;
+use units::SCANNED;
+use units::SLOTS;
+use units::STACKS;
+use units::SWEEP;
+use units::UNSWEPT_FLAG;
+
+// What an unswept span's kind has more, and the end of the kinds with it.
+const UNSWEPT: usize = UNSWEPT_FLAG as usize;
+
+const FLAGS_END: usize = 2 * UNSWEPT;
+
+// The kinds: 67 classes, scan and noscan.
+const KINDS: usize = classes::KINDS as usize;
+
+// The pages of a span of class 0.
+const FEWEST_LARGE: usize = 5;
+
+const MOST_LARGE: usize = 128;
+
+// All slots of stack s are nil.
+fn slots_nil(roots: &[u64], s: usize) -> bool
+    requires { ⌜ (length (now roots) ≡ rootWords) × (s < stacks) ⌝ }
+    ensures { λ r. ⌜ (T r ↔ Empty (now (roots .entry)) s) ⌝ }
+{
+    let first = SLOTS * s;
+    let mut i = 0;
+    while i < SLOTS {
+        let value = roots[first + i];
+        i += 1;
+        if value != NIL {
+            return false;
+        }
+    }
+    true
+}
+
+// Stack s has a legal state, gray only in the mark phase; a closed one is all nil.
+fn stack_ok(roots: &[u64], s: usize) -> bool
+    requires { ⌜ (length (now roots) ≡ rootWords) × (s < stacks) ⌝ }
+    ensures { λ r. ⌜ (T r ↔ Stack (now (roots .entry)) s) ⌝ }
+{
+    let state = roots[FIRST_STATE + s];
+    if state == CLOSED {
+        return slots_nil(roots, s);
+    }
+    if state == GRAY {
+        return roots[PHASE] == MARK;
+    }
+    state == SCANNED
+}
+
+// Every stack is as it should be.
+fn stacks_ok(roots: &[u64]) -> bool
+    requires { ⌜ length (now roots) ≡ rootWords ⌝ }
+    ensures { λ r. ⌜ (T r ↔ ((s : ℕ) → s < stacks → Stack (now (roots .entry)) s)) ⌝ }
+{
+    let mut s = 0;
+    while s < STACKS {
+        let at = s;
+        s += 1;
+        if !stack_ok(roots, at) {
+            return false;
+        }
+    }
+    true
+}
+
+// The phase and the globals' state are legal, gray globals only in the mark phase.
+fn phase_ok(roots: &[u64]) -> bool
+    requires { ⌜ length (now roots) ≡ rootWords ⌝ }
+    ensures { λ r. ⌜ (T r ↔ Phase (now (roots .entry))) ⌝ }
+{
+    let phase = roots[PHASE];
+    let state = roots[GLOBALS_STATE];
+    if SWEEP < phase {
+        return false;
+    }
+    if state == GRAY {
+        return phase == MARK;
+    }
+    state == SCANNED
+}
+
+// The states and the phase are legal, and closed stacks are all nil.
+pub fn states_ok(roots: &[u64]) -> bool
+    requires { ⌜ length (now roots) ≡ rootWords ⌝ }
+    ensures { λ r. ⌜ (T r ↔ States (now (roots .entry))) ⌝ }
+{
+    if !phase_ok(roots) {
+        return false;
+    }
+    stacks_ok(roots)
+}
+
+// The kind is one of the 134, at most with the unswept flag, and the page count is its class's.
+fn entry_ok(kind: usize, count: usize) -> bool
+    ensures { λ r. ⌜ (T r ↔ GoodEntry kind count) ⌝ }
+{
+    if FLAGS_END <= kind {
+        return false;
+    }
+    let plain = kind % UNSWEPT;
+    if KINDS <= plain {
+        return false;
+    }
+    let class = plain / 2;
+    if class != 0 {
+        return count == classes::class_pages(class);
+    }
+    if count < FEWEST_LARGE {
+        return false;
+    }
+    count <= MOST_LARGE
+}
+
+// The kind is that of a swept span, but in the sweep phase.
+fn flag_ok(kind: usize, phase: u64) -> bool
+    ensures { λ r. ⌜ (T r ↔ (phase ≢ sweep → kind < unsweptFlag)) ⌝ }
+{
+    if phase == SWEEP {
+        return true;
+    }
+    kind < UNSWEPT
+}
+
+// Page g is a further page of the span at page s.
+fn further_ok(table: &[u32], s: usize, g: usize) -> bool
+    requires { ⌜ (entryNumbers * g + 2 < length (now table)) × (s < g) ⌝ }
+    ensures { λ r. ⌜ (T r ↔ Further (now (table .entry)) s g) ⌝ }
+{
+    if pages::owner(table, g) != s + 1 {
+        return false;
+    }
+    if pages::page_count(table, g) != 0 {
+        return false;
+    }
+    pages::kind_entry(table, g) == 0
+}
+
+// So are all pages of the span at page s but its first.
+fn body_ok(p: usize, table: &[u32], s: usize, count: usize) -> bool
+    requires { ⌜ (length (now table) ≡ entryNumbers * p) × (s + count ≤ p) × (count ≡ pageCount (now table) s) ⌝ }
+    ensures { λ r. ⌜ (T r ↔ Body (now (table .entry)) s) ⌝ }
+{
+    let end = s + count;
+    let mut g = s + 1;
+    while g < end {
+        let at = g;
+        g += 1;
+        if !further_ok(table, s, at) {
+            return false;
+        }
+    }
+    true
+}
+
+// The span that starts at page s is as it should be.
+fn span_ok(p: usize, table: &[u32], phase: u64, s: usize) -> bool
+    requires { ⌜ (length (now table) ≡ entryNumbers * p) × (p ≤ maxPages) × (s < p) ⌝ }
+    ensures { λ r. ⌜ (T r ↔ First p phase (now (table .entry)) s) ⌝ }
+{
+    let kind = pages::kind_entry(table, s);
+    let count = pages::page_count(table, s);
+    if !entry_ok(kind, count) {
+        return false;
+    }
+    if p - s < count {
+        return false;
+    }
+    if !flag_ok(kind, phase) {
+        return false;
+    }
+    body_ok(p, table, s, count)
+}
+
+// How many pages there are to pass at page g, where no span is under way: one free page, or a whole
+// span. 0 is a fault.
+fn passed(p: usize, table: &[u32], phase: u64, g: usize) -> usize
+    requires { ⌜ (length (now table) ≡ entryNumbers * p) × (p ≤ maxPages) × (g < p) ⌝ }
+    ensures { λ r. ⌜ Step p phase (now (table .entry)) g r ⌝ }
+{
+    let owner = pages::owner(table, g);
+    let count = pages::page_count(table, g);
+    if owner == 0 {
+        if count != 0 {
+            return 0;
+        }
+        if pages::kind_entry(table, g) != 0 {
+            return 0;
+        }
+        return 1;
+    }
+    if owner != g + 1 {
+        return 0;
+    }
+    if !span_ok(p, table, phase, g) {
+        return 0;
+    }
+    count
+}
+
+// The page table of p pages is as it should be in this phase.
+pub fn pages_ok(p: usize, table: &[u32], phase: u64) -> bool
+    requires { ⌜ (length (now table) ≡ entryNumbers * p) × (p ≤ maxPages) ⌝ }
+    ensures { λ r. ⌜ (T r ↔ Pages p phase (now (table .entry))) ⌝ }
+{
+    let mut g = 0;
+    while g < p {
+        let n = passed(p, table, phase, g);
+        g += n;
+        if n == 0 {
+            return false;
+        }
+    }
+    true
+}

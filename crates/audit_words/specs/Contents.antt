@@ -1,0 +1,67 @@
+-- What the audit of references assumes of the page table and the bitmaps, and what it says of the arena's words.
+use Prim.Native.Nat.{ℕ, _+_, _*_, _<_, _≤_}
+use mathlib.Core.Bool.{cond}
+use mathlib.Core.List.{List}
+use mathlib.Core.Path.{_≡_}
+use lib.Dec.{T}
+use lib.ListN.{length, getD}
+use Rattle.model.specs.Bounded.{_≤?_}
+use Rattle.model.specs.Memory.{maxPages, pageWords, entryNumbers, bitmapWords, firstWord, firstState}
+use Rattle.model.specs.Bitmaps.{pointer}
+use Rattle.model.specs.Spans.{pageCount, kindEntry, unsweptFlag, elementOf, elementWords, spanOf}
+use Rattle.model.proofs.Spans.{Spans, IsSpan, Element}
+use Rattle.model.proofs.Facts.{Bits, Reference, bit, keptAt}
+
+-- a page table of p pages whose spans are as they should be, and bitmaps of as many
+pub record Spanned (p : ℕ) (t b : List ℕ) : Type 0 where
+  pub high : p ≤ maxPages
+  pub table : length t ≡ entryNumbers * p
+  pub bits : length b ≡ bitmapWords * p
+  pub spans : Spans p t
+
+-- .. with bits that are as they should be, and an arena
+pub record Filled (p : ℕ) (a t b : List ℕ) : Type 0 where
+  pub spanned : Spanned p t b
+  pub arena : length a ≡ pageWords * p
+  pub set : Bits p t b
+
+-- the bit at which the part starts that says which elements of a span with this kind are kept: marked in an unswept one, else allocated
+abbrev pub keptFrom : ℕ → ℕ → ℕ
+keptFrom p kind = cond (unsweptFlag ≤? kind) (pageWords * p) 0
+
+-- "every root ... is nil or the address of a kept element"
+abbrev pub Roots : ℕ → List ℕ → List ℕ → List ℕ → Type 0
+Roots p t b r = (i : ℕ) → i < firstState → Reference p t b (getD r i 0)
+
+-- the pointer words among the n words from w on hold references
+abbrev pub Pointers : ℕ → List ℕ → List ℕ → List ℕ → ℕ → ℕ → Type 0
+Pointers p a t b w n = (f : ℕ) → f < n → T (bit p pointer b (w + f)) → Reference p t b (getD a (w + f) 0)
+
+-- so do those of the kept elements of the span at page s
+abbrev pub SpanContents : ℕ → List ℕ → List ℕ → List ℕ → ℕ → Type 0
+SpanContents p a t b s =
+    (w : ℕ) → firstWord s ≤ w → w < firstWord (s + pageCount t s) → T (keptAt p t b w) → Pointers p a t b w (elementWords t s)
+
+-- "every pointer word of a kept element, is nil or the address of a kept element"
+abbrev pub Contents : ℕ → List ℕ → List ℕ → List ℕ → Type 0
+Contents p a t b = (w : ℕ) → T (bit p pointer b w) → T (keptAt p t b (elementOf t w)) → Reference p t b (getD a w 0)
+
+-- an element of n words starts at word w
+pub record At (p : ℕ) (t : List ℕ) (w n : ℕ) : Type 0 where
+  pub element : Element t w
+  pub size : n ≡ elementWords t (spanOf t w)
+  pub inside : w + n ≤ pageWords * p
+
+-- the kept elements, of n words each, of the span at page s have their bits from `from` on, and before `end`
+pub record Searched (p : ℕ) (t : List ℕ) (s n from end : ℕ) : Type 0 where
+  pub span : IsSpan t s
+  pub size : n ≡ elementWords t s
+  pub start : from ≡ keptFrom p (kindEntry t s)
+  pub stop : end ≡ from + firstWord (s + pageCount t s)
+  pub low : from ≤ pageWords * p
+  pub inside : s + pageCount t s ≤ p
+
+-- those whose bit stands below `at` have references in their pointer words
+abbrev pub Below : ℕ → List ℕ → List ℕ → List ℕ → ℕ → ℕ → ℕ → ℕ → ℕ → Type 0
+Below p a t b s n from end at =
+    (w : ℕ) → firstWord s ≤ w → from + w < at → from + w < end → T (keptAt p t b w) → Pointers p a t b w n
