@@ -1,0 +1,153 @@
+-- The whole call: where the new element lies, the table with its span, and what meets the outcome.
+use Prim.Native.Nat.{ℕ, _+_, _*_, _/_, _%_, _<_, _≤_}
+use mathlib.Core.Bool.{Bool, true, false, cond, not, _||_, true≢false}
+use mathlib.Core.List.{List}
+use mathlib.Core.Logic.{_≢_}
+use mathlib.Core.Path.{_≡_, refl, sym, _∙_, ap}
+use native.Mathlib.Nat.{mul-le-mul-right}
+use native.Mathlib.Omega.{arith}
+use lib.Dec.{T, ltb, ltb→lt}
+use borrow.Author.Tests.{ltb-true, not-true}
+use Rattle.model.specs.Bounded.{firstBelow}
+use Rattle.model.specs.Memory.{Heap, pageOf, slotAt}
+use Rattle.model.specs.Answers.{Meets, numbers}
+use Rattle.model.specs.Bitmaps.{allocated, is}
+use Rattle.model.specs.Classes.{classOf, kindOf, pagesFor, elementsOf, elementWordsOf}
+use Rattle.model.specs.Spans.{pageCount, kindEntry, elements, elementWords, elementStart, elementNumber, putPages, spanPage}
+use Rattle.model.specs.Allocate.{freeElement, spanWithRoom, bestRun, roomFor, newWord, newTable, allocateRefusal, allocate}
+use Rattle.model.specs.declared.Answer.the-variants.{Value}
+use Rattle.model.proofs.Tests.{of-true}
+use Rattle.model.proofs.Bounded.{first-props}
+use Rattle.model.proofs.Classes.{words-any, takes}
+use Rattle.model.proofs.Spans.{IsSpan, element-fits}
+use Rattle.model.proofs.Facts.{Audited}
+use Rattle.model.proofs.Checks.{allocate-passed}
+use Rattle.pages.proofs.Allocate.{best-fits}
+use Rattle.room.specs.Needs.{Searches, Found}
+use Rattle.room.proofs.Room.{Suits, span-found}
+use Rattle.allocate.specs.Needs.{Extends, Takes, Taken}
+
+-- what the audit gives the search
+pub searches : {h : Heap} → Audited h → Searches (h .pages) (h .table) (h .bits) (h .roots)
+searches {h} F = record {
+  searchable = record { few = F .sized .high; table = F .sized .table; bits = F .sized .bits; spans = F .spans };
+  roots = F .sized .roots;
+}
+
+-- a large span has no free element: its one element is allocated
+no-large : {h : Heap} → Audited h → (r : ℕ) → IsSpan (h .table) r → kindEntry (h .table) r % 256 / 2 ≡ 0 → freeElement h r < elements (h .table) r → ⊥
+unfolding freeElement elementsOf
+no-large {h} F r e c l =
+    let f = F .occupied r e in
+    let E = F .bits .element (f .0) (f .1) in
+    let n = rw (f .2, c) at (E .lies .number) in
+    let i = rw (f .2) at (E .first) in
+    let z : elementNumber (h .table) r (f .0) ≡ 0 = omega arith in
+    let one : elements (h .table) r ≡ 1 = rw c in
+    let y : firstBelow (elements (h .table) r) (λ k. not (is allocated h (elementStart (h .table) r k))) ≡ 0 = omega arith in
+    let q = first-props (elements (h .table) r) (λ k. not (is allocated h (elementStart (h .table) r k))) .holds l in
+    let a = not-true (is allocated h (elementStart (h .table) r 0)) (rw y at q) in
+    true≢false (sym (of-true _ (f .1)) ∙ ap (is allocated h) (sym (rw z at i)) ∙ a)
+
+module _ {h : Heap} (F : Audited h) (size p : ℕ) (some : size ≢ 0) (limit : size ≤ 1048576) (pointers : p ≤ size / 8) where
+  abbrev old : ℕ
+  old = spanWithRoom h (kindOf size p)
+
+  abbrev new : ℕ
+  new = bestRun (h .pages) (h .table) (pagesFor size)
+
+  -- the elements of the span that was found have the words that the size takes
+  old-words : Suits h (kindOf size p) (spanWithRoom h (kindOf size p)) →
+      elementWordsOf (classOf size) (pagesFor size) ≡ elementWords (h .table) (spanWithRoom h (kindOf size p))
+  old-words x =
+      let K = takes size p some limit pointers in
+      let e = x .same in
+      let c : kindEntry (h .table) old % 256 / 2 ≡ classOf size = rw e (omega (arith, K .kind, K .class)) in
+      rw c (words-any (classOf size) (pagesFor size) (pageCount (h .table) old) (λ z. no-large F old (x .span) (c ∙ z) (x .free)))
+
+  -- the new element lies in the arena
+  pub new-inside : T (roomFor h (kindOf size p) (pagesFor size)) → newWord h (kindOf size p) (pagesFor size) + elementWordsOf (classOf size) (pagesFor size) ≤ 1024 * h .pages
+  unfolding newWord
+  new-inside = go (ltb old (h .pages)) refl
+    where
+      go : (b : Bool) → ltb old (h .pages) ≡ b → T (b || ltb new (h .pages)) →
+          cond b (elementStart (h .table) old (freeElement h old)) (1024 * new) + elementWordsOf (classOf size) (pagesFor size) ≤ 1024 * h .pages
+      go true e _ =
+          let x = span-found h (kindOf size p) (ltb-true old (h .pages) e) in
+          rw (old-words x) (omega (arith, element-fits (F .spans) old (freeElement h old) (x .span) (x .free), F .spans .inside old (x .span)))
+      go false e m =
+          let K = takes size p some limit pointers .fits in
+          let one = mul-le-mul-right (elementWordsOf (classOf size) (pagesFor size)) (K .some) in
+          omega (arith, best-fits (h .pages) (h .table) (pagesFor size) (ltb→lt new (h .pages) m), one, K .inside)
+
+  -- a new span lies in the table
+  pub new-extends : (f : Bool) (w : ℕ) → f ≡ not (ltb old (h .pages)) → w ≡ newWord h (kindOf size p) (pagesFor size) → T (roomFor h (kindOf size p) (pagesFor size)) →
+      f ≡ true → Extends (h .table) w size
+  unfolding newWord
+  new-extends f w e g m t =
+      let c : ltb old (h .pages) ≡ false = not-true (ltb old (h .pages)) (sym e ∙ t) in
+      let v : w ≡ 1024 * new = rw c at g in
+      let i = best-fits (h .pages) (h .table) (pagesFor size) (ltb→lt new (h .pages) (rw c at m)) in
+      record { few = omega (arith, F .sized .high); long = omega (arith, F .sized .table) }
+
+-- the table with the new span
+pub table-is : (h : Heap) (kind n : ℕ) (f : Bool) (w : ℕ) → f ≡ not (ltb (spanWithRoom h kind) (h .pages)) → w ≡ newWord h kind n →
+    cond f (putPages (pageOf w) n (spanPage (pageOf w) n kind) (h .table)) (h .table) ≡ newTable h kind n
+unfolding newWord newTable
+table-is h kind n f w e g = rw (e, g) (go (ltb (spanWithRoom h kind) (h .pages)))
+  where
+    s : ℕ
+    s = bestRun (h .pages) (h .table) n
+
+    go : (b : Bool) →
+        let v = cond b (elementStart (h .table) (spanWithRoom h kind) (freeElement h (spanWithRoom h kind))) (1024 * s) in
+        cond (not b) (putPages (pageOf v) n (spanPage (pageOf v) n kind) (h .table)) (h .table) ≡ cond b (h .table) (putPages s n (spanPage s n kind) (h .table))
+    go true = refl
+    go false = let z : 1024 * s / 1024 ≡ s = omega arith in rw z
+
+-- what is known where an allocation is accepted
+pub record Accepted (h : Heap) (s i size p w : ℕ) (f : Bool) : Type 0 where
+  pub number : allocateRefusal h s i size p ≡ 0
+  pub stack : s < 16
+  pub slot : i < 32
+  pub word : w ≡ newWord h (kindOf size p) (pagesFor size)
+  pub extends : f ≡ true → Extends (h .table) w size
+  pub takes : Takes (h .pages) w size p (slotAt s i) (h .arena) (h .bits) (h .roots)
+  pub table : cond f (putPages (pageOf w) (pagesFor size) (spanPage (pageOf w) (pagesFor size) (kindOf size p)) (h .table)) (h .table) ≡ newTable h (kindOf size p) (pagesFor size)
+
+pub accepted-facts : {h : Heap} → Audited h → (s i size p : ℕ) {r w : ℕ} {f : Bool} → Found h (allocateRefusal h s i size p) (kindOf size p) (pagesFor size) r w f → r ≡ 0 →
+    Accepted h s i size p w f
+accepted-facts {h} F s i size p {r} {w} {f} D z =
+    let A = allocate-passed h s i size p (sym (D .number) ∙ z) in
+    let K = takes size p (A .some) (A .limit) (A .pointers) in
+    let v = D .word z in
+    let e = D .fresh z in
+    let inside : w + elementWordsOf (classOf size) (pagesFor size) ≤ 1024 * h .pages = rw v (new-inside F size p (A .some) (A .limit) (A .pointers) (A .room)) in
+    record {
+      number = sym (D .number) ∙ z;
+      stack = A .stack .below;
+      slot = A .slot;
+      word = v;
+      extends = new-extends F size p (A .some) (A .limit) (A .pointers) f w e v (A .room);
+      takes = record {
+        marks = record {
+          few = F .sized .high;
+          bits = F .sized .bits;
+          roots = F .sized .roots;
+          word = omega (arith, inside, K .fits .words);
+          pointers = omega (arith, inside, K .pointers);
+        };
+        limit = A .limit;
+        inside = omega (arith, inside, F .sized .arena);
+        slot = omega (arith, A .stack .below, A .slot);
+      };
+      table = table-is h (kindOf size p) (pagesFor size) f w e v;
+    }
+
+-- the element taken and the table extended meet the outcome
+pub accepted-meets : (h : Heap) (s i size p : ℕ) {w v : ℕ} {f : Bool} {a t b r : List ℕ} → Accepted h s i size p w f →
+    t ≡ cond f (putPages (pageOf w) (pagesFor size) (spanPage (pageOf w) (pagesFor size) (kindOf size p)) (h .table)) (h .table) → Taken h w size p (slotAt s i) v a b r →
+    Meets (allocate h s i size p) (Value v) a t b r
+unfolding allocate
+accepted-meets h s i size p {w} A u K =
+    rw (A .number, ← A .word) (record { answer = ap Value (K .value); listed = ap (λ x. numbers (Value x)) (K .value); arena = K .arena; table = u ∙ A .table; bits = K .bits; roots = K .roots })

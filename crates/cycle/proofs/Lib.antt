@@ -1,0 +1,4 @@
+pub mod Finishing
+pub mod Marking
+pub mod Scanning
+pub mod Starting

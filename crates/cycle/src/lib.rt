@@ -1,0 +1,224 @@
+// The calls of one cycle up to the sweep: start, the scans of the stacks and the globals, the mark
+// step, finish. They are taken after the audit, of which each requires what it is lent the buffers
+// for. The lowest gray record and the end of a record's pointer words are found a bitmap word at a
+// time.
+ghost use mathlib.Core.Path.{_≡_};
+ghost use mathlib.Core.Bool.{cond};
+ghost use mathlib.Core.List.{List};
+ghost use Prim.Native.Nat.{ℕ, _+_};
+ghost use lib.Dec.{eqb};
+ghost use lib.ListN.{length, getD};
+ghost use Rattle.model.specs.Bounded.{someBelow};
+ghost use Rattle.model.specs.Memory.{lent, rootWords, putWords, firstState, stacks, closed, grayState, mark};
+ghost use Rattle.model.specs.Answers.{Meets, _orElse_};
+ghost use Rattle.model.specs.Spans.{pointerCount};
+ghost use Rattle.model.specs.Checks.{phaseIsNot, notOpen};
+ghost use Rattle.model.specs.Cycle.{start, scanStack, scanGlobals, firstGray, scanRecord, markStep, finishRefusal, finish};
+ghost use Rattle.model.proofs.Facts.{Audited};
+ghost use Rattle.stacks.specs.OnRoots.{Tests, Does as OnRoots};
+ghost use Rattle.cycle.specs.Needs.{AuditedWithout, Does, Mapped, Record, Gray, Scannable, Scans};
+use model::Answer;
+use units::Word;
+
+// The state of a stack once a cycle starts.
+fn grayed(state: u64) -> u64
+    ensures { λ r. ⌜ r ≡ cond (eqb state closed) closed grayState ⌝ }
+{
+    if state == units::CLOSED {
+        return units::CLOSED;
+    }
+    units::GRAY
+}
+
+// Every open stack becomes gray.
+fn gray_stacks(roots: &mut [u64])
+    requires { ⌜ length (now roots) ≡ rootWords ⌝ }
+    ensures { λ r. ⌜ now (roots .exit) ≡ putWords firstState stacks (λ i. cond (eqb (getD (now (roots .entry)) i 0) closed) closed grayState) (now (roots .entry)) ⌝ }
+{
+    let mut done = 0;
+    while done < units::STACKS {
+        let at = units::FIRST_STATE + done;
+        done += 1;
+        roots[at] = grayed(roots[at]);
+    }
+}
+
+// A cycle starts. No bitmap is lent: nothing is marked yet.
+pub fn start(roots: &mut [u64]) -> Answer
+    requires { ⌜ length (now roots) ≡ rootWords ⌝ }
+    ensures { λ r. ⌜ OnRoots (λ h. start h) r (now (roots .entry)) (now (roots .exit)) ⌝ }
+{
+    if roots[units::PHASE] != units::OFF {
+        return Answer::Refused(units::WRONG_PHASE);
+    }
+    gray_stacks(roots);
+    roots[units::GLOBALS_STATE] = units::GRAY;
+    roots[units::PHASE] = units::MARK;
+    Answer::Done
+}
+
+// The values from word `from` of the roots on are shaded, if their state, at word `at`, is gray. There
+// are as many globals as a stack has slots.
+fn scan(
+    p: usize,
+    table: &[u32],
+    bits: &mut [u64],
+    roots: &mut [u64],
+    from: usize,
+    at: usize,
+) -> Answer
+    requires { ⌜ Scannable p (now table) (now bits) (now roots) from at ⌝ }
+    ensures { λ r. ⌜ Scans p (now (table .entry)) (now (bits .entry)) (now (roots .entry)) from at r (now (bits .exit)) (now (roots .exit)) ⌝ }
+{
+    if roots[at] != units::GRAY {
+        return Answer::Value(0);
+    }
+    let count = shading::shade_slice(p, table, bits, roots, from, units::SLOTS);
+    roots[at] = units::SCANNED;
+    Answer::Value(count)
+}
+
+// The refusal of a scan of stack s.
+fn scan_refusal(roots: &[u64], s: u64) -> u64
+    requires { ⌜ length (now roots) ≡ rootWords ⌝ }
+    ensures { λ r. ⌜ Tests (λ h. phaseIsNot h mark orElse notOpen h s) (now (roots .entry)) r ⌝ }
+{
+    if roots[units::PHASE] != units::MARK {
+        return units::WRONG_PHASE;
+    }
+    stacks::not_open(roots, s)
+}
+
+// Stack s is scanned.
+pub fn scan_stack(p: usize, table: &[u32], bits: &mut [u64], roots: &mut [u64], s: u64) -> Answer
+    requires { ⌜ AuditedWithout p (now table) (now bits) (now roots) ⌝ }
+    ensures { λ r. ⌜ Does (λ h. scanStack h s) p (now (table .entry)) (now (bits .entry)) (now (roots .entry)) r (now (table .entry)) (now (bits .exit)) (now (roots .exit)) ⌝ }
+{
+    let n = scan_refusal(roots, s);
+    if n != 0 {
+        return Answer::Refused(n);
+    }
+    let stack = s as usize;
+    scan(
+        p,
+        table,
+        bits,
+        roots,
+        units::SLOTS * stack,
+        units::FIRST_STATE + stack,
+    )
+}
+
+// The globals are scanned.
+pub fn scan_globals(p: usize, table: &[u32], bits: &mut [u64], roots: &mut [u64]) -> Answer
+    requires { ⌜ AuditedWithout p (now table) (now bits) (now roots) ⌝ }
+    ensures { λ r. ⌜ Does (λ h. scanGlobals h) p (now (table .entry)) (now (bits .entry)) (now (roots .entry)) r (now (table .entry)) (now (bits .exit)) (now (roots .exit)) ⌝ }
+{
+    if roots[units::PHASE] != units::MARK {
+        return Answer::Refused(units::WRONG_PHASE);
+    }
+    scan(
+        p,
+        table,
+        bits,
+        roots,
+        units::FIRST_GLOBAL,
+        units::GLOBALS_STATE,
+    )
+}
+
+// The first word of the lowest gray record, or the number of the arena's words.
+fn first_gray(p: usize, bits: &[u64]) -> usize
+    requires { ⌜ Mapped p (now bits) ⌝ }
+    ensures { λ r. ⌜ ((a t roots : List ℕ) → r ≡ firstGray (lent p a t (now (bits .entry)) roots)) ⌝ }
+{
+    let words = units::PAGE_WORDS * p;
+    let grays = 2 * words;
+    bitmap::first_set(bits, grays, grays + words) - grays
+}
+
+// How many pointer words the record at word w has: its pointer bits are a run from its first word on,
+// up to its element's end at most.
+fn pointer_count(p: usize, table: &[u32], bits: &[u64], w: usize) -> usize
+    requires { ⌜ Record p (now table) (now bits) w ⌝ }
+    ensures { λ r. ⌜ ((a roots : List ℕ) → r ≡ pointerCount (lent p a (now (table .entry)) (now (bits .entry)) roots) w) ⌝ }
+{
+    let size = spans::element_words(table, pages::span_of_word(table, w));
+    let first = 3 * (units::PAGE_WORDS * p) + w;
+    bitsearch::first_clear(bits, first, first + size) - first
+}
+
+// The gray record at word w: its gray bit goes, and its pointer words are shaded.
+fn scan_record(p: usize, arena: &[u64], table: &[u32], bits: &mut [u64], roots: &[u64], w: usize)
+    requires { ⌜ Gray (lent p (now arena) (now table) (now bits) (now roots)) w ⌝ }
+    ensures { λ r. ⌜ now (bits .exit) ≡ scanRecord w (lent p (now (arena .entry)) (now (table .entry)) (now (bits .entry)) (now (roots .entry))) ⌝ }
+{
+    let n = pointer_count(p, table, bits, w);
+    bitmap::clear(bits, 2 * (units::PAGE_WORDS * p) + w);
+    shading::shade_slice(p, table, bits, arena, w, n);
+}
+
+// One mark step: the gray record with the lowest address.
+pub fn mark_step(p: usize, arena: &[u64], table: &[u32], bits: &mut [u64], roots: &[u64]) -> Answer
+    requires { ⌜ Audited (lent p (now arena) (now table) (now bits) (now roots)) ⌝ }
+    ensures { λ r. ⌜ Meets (markStep (lent p (now (arena .entry)) (now (table .entry)) (now (bits .entry)) (now (roots .entry)))) r (now (arena .entry)) (now (table .entry)) (now (bits .exit)) (now (roots .entry)) ⌝ }
+{
+    if roots[units::PHASE] != units::MARK {
+        return Answer::Refused(units::WRONG_PHASE);
+    }
+    let w = first_gray(p, bits);
+    if units::PAGE_WORDS * p <= w {
+        return Answer::Value(0);
+    }
+    scan_record(p, arena, table, bits, roots, w);
+    Answer::Value(Word(w).address().0)
+}
+
+// Some stack is gray.
+fn some_gray(roots: &[u64]) -> bool
+    requires { ⌜ length (now roots) ≡ rootWords ⌝ }
+    ensures { λ r. ⌜ r ≡ someBelow stacks (λ s. eqb (getD (now (roots .entry)) (firstState + s) 0) grayState) ⌝ }
+{
+    let mut s = 0;
+    while s < units::STACKS {
+        if roots[units::FIRST_STATE + s] == units::GRAY {
+            return true;
+        }
+        s += 1;
+    }
+    false
+}
+
+// The refusal of a finish: something is gray.
+fn finish_refusal(p: usize, bits: &[u64], roots: &[u64]) -> u64
+    requires { ⌜ Mapped p (now bits) × (length (now roots) ≡ rootWords) ⌝ }
+    ensures { λ r. ⌜ ((a t : List ℕ) → r ≡ finishRefusal (lent p a t (now (bits .entry)) (now (roots .entry)))) ⌝ }
+{
+    if roots[units::PHASE] != units::MARK {
+        return units::WRONG_PHASE;
+    }
+    if some_gray(roots) {
+        return units::UNFINISHED;
+    }
+    if roots[units::GLOBALS_STATE] == units::GRAY {
+        return units::UNFINISHED;
+    }
+    if first_gray(p, bits) < units::PAGE_WORDS * p {
+        return units::UNFINISHED;
+    }
+    0
+}
+
+// Marking ends: every span becomes unswept.
+pub fn finish(p: usize, table: &mut [u32], bits: &[u64], roots: &mut [u64]) -> Answer
+    requires { ⌜ AuditedWithout p (now table) (now bits) (now roots) ⌝ }
+    ensures { λ r. ⌜ Does (λ h. finish h) p (now (table .entry)) (now (bits .entry)) (now (roots .entry)) r (now (table .exit)) (now (bits .entry)) (now (roots .exit)) ⌝ }
+{
+    let n = finish_refusal(p, bits, roots);
+    if n != 0 {
+        return Answer::Refused(n);
+    }
+    pages::make_all_unswept(p, table);
+    roots[units::PHASE] = units::SWEEP;
+    Answer::Done
+}

@@ -1,0 +1,77 @@
+-- What a call on a field that is not refused may do in audited buffers: where its field lies, and which values are references.
+use Prim.Native.Nat.{ℕ, _+_, _*_, _<_, _≤_}
+use mathlib.Core.Bool.{not}
+use mathlib.Core.List.{List}
+use mathlib.Core.Path.{_≡_, sym, _∙_}
+use native.Mathlib.Omega.{arith}
+use lib.ListN.{length, getD}
+use Rattle.model.specs.Memory.{Heap, slot, slotAt, word}
+use Rattle.model.specs.Spans.{elementWords, spanOf, isPointer}
+use Rattle.model.specs.Checks.{pointerRefusal, numberRefusal, recordAt}
+use Rattle.model.proofs.Bounded.{first-props}
+use Rattle.model.proofs.Checks.{PointerField, pointer-passed, number-passed}
+use Rattle.model.proofs.Facts.{Audited, named, pointer-word}
+use Rattle.shading.specs.Needs.{Stored}
+use Rattle.shading.proofs.References.{reference-named, audited-tables}
+use Rattle.fields.specs.Needs.{Field, Rooted}
+use Rattle.fields.proofs.Fields.{fits, slot-record, rooted}
+
+-- field f of the record in slot j lies in the arena, and there are slots i and j
+pub record Access (h : Heap) (s i j f : ℕ) : Type 0 where
+  pub stack : s < 16
+  pub other : i < 32
+  pub slot : j < 32
+  pub long : length (h .roots) ≡ 562
+  pub inside : recordAt h s j + f < length (h .arena)
+  pub high : recordAt h s j + f < 262144
+
+-- .. as `field_at` asks
+pub field : {h : Heap} {s i j f : ℕ} → Access h s i j f → Field (h .roots) s j f
+field A = record { roots = A .long; stack = A .stack; slot = A .slot; word = A .high }
+
+module _ {h : Heap} (A : Audited h) (s i j f : ℕ) {n : ℕ} (e : n ≡ pointerRefusal h s i j f) (z : n ≡ 0) where
+  passed : PointerField h s i j f
+  passed = pointer-passed h s i j f (sym e ∙ z)
+
+  in-slots : slotAt s j < 544
+  in-slots = omega (arith, passed .stack .below, passed .slot)
+
+  pub pointer-access : Access h s i j f
+  pointer-access =
+      let P = passed in
+      let w = fits (slot-record (rooted A) (slotAt s j) in-slots (P .named)) in
+      let l = first-props (elementWords (h .table) (spanOf (h .table) (recordAt h s j))) (λ k. not (isPointer h (recordAt h s j + k))) .within in
+      let x : recordAt h s j + f < 1024 * h .pages = omega (arith, P .field) in
+      record { stack = P .stack .below; other = P .other; slot = P .slot; long = A .sized .roots; inside = omega (arith, A .sized .arena); high = omega (arith, A .sized .high) }
+
+  -- the old value of the field and slot i may be shaded
+  pub pointer-stored : Stored (h .pages) (h .table) (h .bits) (h .roots) (word h (recordAt h s j + f)) (slot h s i)
+  pointer-stored =
+      let P = passed in
+      let r = named (A .bits) (slot h s j) (P .named) (A .references .root (slotAt s j) in-slots) in
+      let old = pointer-word A (recordAt h s j) (r .0) (r .1) f (P .field) .1 in
+      let new = A .references .root (slotAt s i) (omega (arith, P .stack .below, P .other)) in
+      record {
+        tables = audited-tables A;
+        roots = A .sized .roots;
+        oldNamed = reference-named (A .spans) (A .bits) (word h (recordAt h s j + f)) old;
+        newNamed = reference-named (A .spans) (A .bits) (slot h s i) new;
+      }
+
+-- number word f of the record in slot j
+pub number-access : {h : Heap} → Audited h → (s j f : ℕ) {n : ℕ} → n ≡ numberRefusal h s j f → n ≡ 0 → Access h s j j f
+number-access {h} A s j f e z =
+    let P = number-passed h s j f (sym e ∙ z) in
+    let w = fits (slot-record (rooted A) (slotAt s j) (omega (arith, P .stack .below, P .slot)) (P .named)) in
+    let x : recordAt h s j + f < 1024 * h .pages = omega (arith, P .high) in
+    record { stack = P .stack .below; other = P .slot; slot = P .slot; long = A .sized .roots; inside = omega (arith, A .sized .arena); high = omega (arith, A .sized .high) }
+
+-- two roots that are references, as the barrier asks
+pub roots-stored : {p : ℕ} {t b r : List ℕ} → Rooted p t b r → (x y : ℕ) → x < 544 → y < 544 → Stored p t b r (getD r x 0) (getD r y 0)
+roots-stored {p} {t} {b} {r} R x y k l =
+    record {
+      tables = R .tables;
+      roots = R .long;
+      oldNamed = reference-named (R .spans) (R .bits) (getD r x 0) (R .named x k);
+      newNamed = reference-named (R .spans) (R .bits) (getD r y 0) (R .named y l);
+    }

@@ -1,0 +1,37 @@
+-- Refusals: the longer chains as one more test after a slot's, and what a call that is not refused has passed, from what its refusal gave.
+use Prim.Native.Nat.{ℕ, _<_}
+use mathlib.Core.List.{List, []}
+use mathlib.Core.Path.{_≡_, sym, _∙_}
+use Rattle.model.specs.Memory.{Heap, lent}
+use Rattle.model.specs.Answers.{_orElse_}
+use Rattle.model.specs.Checks.{notOpen, notClosed, noSlot, noGlobal, slotRefusal, slotsRefusal, globalRefusal}
+use Rattle.model.proofs.Outcomes.{orElse-assoc}
+use Rattle.model.proofs.Checks.{passes, open-passed, slot-passed, slots-passed, global-passed}
+use Rattle.stacks.specs.OnRoots.{Tests}
+
+pub slots-chain : (h : Heap) (s i j : ℕ) → slotsRefusal h s i j ≡ (slotRefusal h s i orElse noSlot j)
+unfolding slotsRefusal slotRefusal
+slots-chain h s i j = sym (orElse-assoc (notOpen h s) (noSlot i) (noSlot j))
+
+pub global-chain : (h : Heap) (s i g : ℕ) → globalRefusal h s i g ≡ (slotRefusal h s i orElse noGlobal g)
+unfolding globalRefusal slotRefusal
+global-chain h s i g = sym (orElse-assoc (notOpen h s) (noSlot i) (noGlobal g))
+
+-- some heap with these roots
+abbrev with : List ℕ → Heap
+with r = lent 0 [] [] [] r
+
+pub open-bounds : (r : List ℕ) (s : ℕ) {n : ℕ} → Tests (λ h. notOpen h s) r n → n ≡ 0 → s < 16
+open-bounds r s f e = open-passed (with r) s (sym (f 0 [] [] []) ∙ e) .below
+
+pub closed-bounds : (r : List ℕ) (s : ℕ) {n : ℕ} → Tests (λ h. notClosed h s) r n → n ≡ 0 → s < 16
+closed-bounds r s f e = let x = simp passes at (sym (f 0 [] [] []) ∙ e) in x .0
+
+pub slot-bounds : (r : List ℕ) (s i : ℕ) {n : ℕ} → Tests (λ h. slotRefusal h s i) r n → n ≡ 0 → (s < 16) × (i < 32)
+slot-bounds r s i f e = let x = slot-passed (with r) s i (sym (f 0 [] [] []) ∙ e) in (x .0 .below, x .1)
+
+pub slots-bounds : (r : List ℕ) (s i j : ℕ) {n : ℕ} → Tests (λ h. slotsRefusal h s i j) r n → n ≡ 0 → (s < 16) × (i < 32) × (j < 32)
+slots-bounds r s i j f e = let x = slots-passed (with r) s i j (sym (f 0 [] [] []) ∙ e) in (x .0 .below, x .1, x .2)
+
+pub global-bounds : (r : List ℕ) (s i g : ℕ) {n : ℕ} → Tests (λ h. globalRefusal h s i g) r n → n ≡ 0 → (s < 16) × (i < 32) × (g < 32)
+global-bounds r s i g f e = let x = global-passed (with r) s i g (sym (f 0 [] [] []) ∙ e) in (x .0 .below, x .1, x .2)

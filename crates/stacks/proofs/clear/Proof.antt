@@ -1,0 +1,49 @@
+-- Refused, or one slot set.
+use mathlib.Core.Path.{sym, _∙_}
+use native.Mathlib.Omega.{arith}
+use Rattle.model.specs.Memory.{lent}
+use Rattle.model.proofs.Outcomes.{refused, accepted}
+use Rattle.model.specs.Records.{clear}
+use Rattle.stacks.proofs.Passed.{slot-bounds}
+use borrow.Author.Needs.{needs}
+use Rattle.stacks.proofs.clear.Statement.{statement}
+use Rattle.stacks.proofs.clear.Tie as tie
+
+slot-refusal-requires : tie.Need-slot-refusal-requires
+slot-refusal-requires c κs = search needs
+
+same-length : tie.Need-same-length
+same-length c = search needs
+
+returns : tie.Need-returns
+unfolding clear
+returns c = λ p a t b. refused _ (lent p a t b _) _ _ (c .before .slot-refusal .ensures p a t b) (c .if1 .taken)
+
+slot-at-requires : tie.Need-slot-at-requires
+slot-at-requires c κs = omega (arith, slot-bounds _ _ _ (c .before .slot-refusal .ensures) (c .if1 .left))
+
+mul-roots : tie.Need-mul-roots
+mul-roots c = omega (arith, slot-bounds _ _ _ (c .before .before .slot-refusal .ensures) (c .before .if1 .left))
+
+slice-write-roots : tie.Need-slice-write-roots
+slice-write-roots c = omega (arith, slot-bounds _ _ _ (c .before .before .slot-refusal .ensures) (c .before .if1 .left))
+
+same-length-2 : tie.Need-same-length-2
+same-length-2 c = search needs
+
+returns-2 : tie.Need-returns-2
+unfolding clear
+returns-2 c = λ p a t b. rw (c .slot-at .ensures) (accepted _ (lent p a t b _) _ _ (sym (c .before .before .slot-refusal .ensures p a t b) ∙ c .before .if1 .left))
+
+pub clear-spec : {M : Type 1} → statement M
+clear-spec =
+    tie.close
+    (tie.spec
+    slot-refusal-requires
+    same-length
+    returns
+    slot-at-requires
+    mul-roots
+    slice-write-roots
+    same-length-2
+    returns-2)
