@@ -1,0 +1,162 @@
+//! Compares the proved heap with the plain one on random lists of calls, call
+//! for call and word for word. It prints the seed, and with the same seed makes
+//! the same lists. It ends with status 1 at the first difference, or where the
+//! lists have not been everywhere. `--self-check` puts wrong heaps in the plain
+//! one's place, each of which has to be found out.
+
+use std::process::ExitCode;
+use std::time::Instant;
+
+use compare::lists::{run_list, Difference, Pair, Visits};
+use compare::options::Options;
+use compare::proved::{numbers_of, proved_numbers, Numbers};
+use peer::calls::apply_with_fault;
+use peer::faults::*;
+use peer::layout::{CLOSED, FIRST_STATE};
+use peer::{apply, Buffers, Call};
+
+const USAGE: &str = "compare [--seed N] [--calls N] [--list N] [--self-check]
+  --seed N      another seed
+  --calls N     at least so many calls
+  --list N      the list of this number alone
+  --self-check  that wrong heaps are found out";
+const SEED: u64 = 20_171_025;
+const CALLS: u64 = 1_000_000;
+/// From so many calls on the lists have to have been everywhere.
+const ENOUGH_CALLS: u64 = 200_000;
+/// A wrong heap has to be found out within so many lists.
+const SELF_CHECK_LISTS: u64 = 20_000;
+/// The four calls of the mark phase and start have one phase each, as has the
+/// sweep step; the other thirteen calls have three.
+const ACCEPTED_IN_PHASE: usize = 13 * 3 + 4 + 1 + 1;
+const CYCLES: u64 = 500;
+
+fn main() -> ExitCode {
+    let options = Options::read(USAGE, &["seed", "calls", "list"], &["self-check"]);
+    let seed = options.number("seed", SEED);
+    println!("seed {seed}");
+    let right = if options.flag("self-check") {
+        self_check(seed)
+    } else if options.flag("list") {
+        one_list(seed, options.number("list", 0))
+    } else {
+        many_lists(seed, options.number("calls", CALLS))
+    };
+    if right {
+        ExitCode::SUCCESS
+    } else {
+        ExitCode::FAILURE
+    }
+}
+
+const PAIR: Pair = Pair { plain: right_heap, proved: proved_numbers };
+
+fn right_heap(call: &Call, lent: Buffers<'_>) -> Numbers {
+    numbers_of(apply(call, lent))
+}
+
+fn report(seed: u64, difference: &Difference) {
+    println!("the heaps differ, seed {seed}");
+    print!("{difference}");
+    println!("again: compare --seed {seed} --list {}", difference.list);
+}
+
+fn one_list(seed: u64, list: u64) -> bool {
+    let mut visits = Visits::default();
+    let result = run_list(seed, list, &PAIR, &mut visits);
+    println!("{} calls of list {list}", visits.calls);
+    result.map_err(|difference| report(seed, &difference)).is_ok()
+}
+
+fn many_lists(seed: u64, calls: u64) -> bool {
+    let begin = Instant::now();
+    let mut visits = Visits::default();
+    let mut lists = 0;
+    while visits.calls < calls {
+        if let Err(difference) = run_list(seed, lists, &PAIR, &mut visits) {
+            report(seed, &difference);
+            return false;
+        }
+        lists += 1;
+    }
+    let seconds = begin.elapsed().as_secs_f64();
+    println!("{} calls in {lists} lists, {seconds:.1} s, no difference", visits.calls);
+    println!("{} damages, {} cycles ended", visits.damages, visits.cycles);
+    for refusal in (0..=10).chain([12]) {
+        println!("refusal {refusal}: {}", visits.refusals(refusal));
+    }
+    calls < ENOUGH_CALLS || been_everywhere(&visits)
+}
+
+/// Whether each call was accepted in each of its phases and each refusal was
+/// met.
+fn been_everywhere(visits: &Visits) -> bool {
+    let refusals = (0..=10).chain([12]).all(|refusal| visits.refusals(refusal) > 0);
+    let accepted = visits.accepted_in_phase();
+    let everywhere =
+        refusals && accepted == ACCEPTED_IN_PHASE && visits.cycles >= CYCLES && visits.damages > 0;
+    if !everywhere {
+        println!("the lists have not been everywhere: {accepted} of {ACCEPTED_IN_PHASE} calls");
+        println!("in their phases were accepted, or a refusal, damage or cycles are missing");
+    }
+    everywhere
+}
+
+fn with_fault<const FAULT: u8>(call: &Call, lent: Buffers<'_>) -> Numbers {
+    numbers_of(apply_with_fault::<FAULT>(call, lent))
+}
+
+/// Gives a value with a refusal.
+fn value_with_refusal(call: &Call, lent: Buffers<'_>) -> Numbers {
+    let numbers = right_heap(call, lent);
+    match numbers {
+        [9, ..] => [9, 0, 0, 1],
+        _ => numbers,
+    }
+}
+
+/// Changes a root when it refuses a field.
+fn change_with_refusal(call: &Call, mut lent: Buffers<'_>) -> Numbers {
+    let numbers = right_heap(call, lent.again());
+    if numbers[0] == 7 {
+        lent.roots[0] ^= 8;
+    }
+    numbers
+}
+
+/// Refuses a slot before a closed stack.
+fn slot_before_stack(call: &Call, lent: Buffers<'_>) -> Numbers {
+    let first_closed = lent.roots.get(FIRST_STATE) == Some(&CLOSED);
+    let numbers = right_heap(call, lent);
+    match call {
+        Call::Clear { stack: 0, slot: 32.., .. } if first_closed && numbers[0] == 3 => [4, 0, 0, 0],
+        _ => numbers,
+    }
+}
+
+/// Whether each wrong heap is found out.
+fn self_check(seed: u64) -> bool {
+    let wrong_heaps: [(&str, compare::lists::Heap); 10] = [
+        ("shades only the new value", with_fault::<SHADE_ONLY_NEW>),
+        ("shades only the old value", with_fault::<SHADE_ONLY_OLD>),
+        ("allocates white", with_fault::<ALLOCATE_WHITE>),
+        ("allocates in unswept spans", with_fault::<ALLOCATE_IN_UNSWEPT>),
+        ("keeps pointer bits", with_fault::<KEEP_POINTER_BITS>),
+        ("keeps old words", with_fault::<KEEP_OLD_WORDS>),
+        ("returns pages early", with_fault::<RETURN_PAGES_EARLY>),
+        ("gives a value with a refusal", value_with_refusal),
+        ("changes a word with a refusal", change_with_refusal),
+        ("refuses in the wrong order", slot_before_stack),
+    ];
+    let found = wrong_heaps.map(|(name, plain)| found_out(seed, name, plain));
+    found.into_iter().all(|found| found)
+}
+
+fn found_out(seed: u64, name: &str, plain: compare::lists::Heap) -> bool {
+    let pair = Pair { plain, ..PAIR };
+    let mut visits = Visits::default();
+    let found = (0..SELF_CHECK_LISTS).any(|list| run_list(seed, list, &pair, &mut visits).is_err());
+    let verdict = if found { "found out" } else { "NOT found out" };
+    println!("a heap that {name}: {verdict} after {} calls", visits.calls);
+    found
+}

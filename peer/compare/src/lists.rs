@@ -1,0 +1,255 @@
+//! Random lists of calls, carried out by two heaps on memory of their own. A
+//! list may begin on buffers that hold anything, on empty ones or on a random
+//! heap; it has calls with any numbers, wrong lengths, a wrong P, and damage
+//! that is done to both memories and perhaps undone some calls later. After
+//! each call the answers and every word of the two memories have to be equal.
+
+use std::collections::HashMap;
+use std::fmt::{self, Display};
+use std::mem::discriminant;
+
+use peer::layout::{MAX_PAGES, PHASE};
+use peer::random::{CallMaker, Random};
+use peer::{Buffers, Call};
+
+use crate::damage::{fill_with_anything, random_change, Change};
+use crate::heaps::random_heap;
+use crate::lines::with_one_number_changed;
+use crate::memory::{lengths, Lengths, Memory, Place};
+use crate::proved::Numbers;
+
+pub type Heap = fn(&Call, Buffers<'_>) -> Numbers;
+
+/// The two heaps that are compared.
+#[derive(Clone, Copy)]
+pub struct Pair {
+    pub plain: Heap,
+    pub proved: Heap,
+}
+
+/// At most so many differing words are shown.
+const SHOWN_WORDS: usize = 8;
+
+/// A call after which the two sides differ.
+pub struct Difference {
+    pub list: u64,
+    pub step: u64,
+    pub pages: u64,
+    pub call: Call,
+    pub lengths: Lengths,
+    pub plain: Numbers,
+    pub proved: Numbers,
+    /// Place, plain word, proved word.
+    pub words: Vec<(Place, u64, u64)>,
+}
+
+impl Display for Difference {
+    fn fmt(&self, out: &mut fmt::Formatter<'_>) -> fmt::Result {
+        writeln!(out, "list {}, call {}: {:?}", self.list, self.step, self.call)?;
+        writeln!(out, "on a heap of {} pages, lent lengths {:?}", self.pages, self.lengths)?;
+        writeln!(out, "answers, refusal first: plain {:?}, proved {:?}", self.plain, self.proved)?;
+        for (place, plain, proved) in &self.words {
+            writeln!(out, "{place}: plain {plain:#x}, proved {proved:#x}")?;
+        }
+        Ok(())
+    }
+}
+
+/// How often each call met each refusal in each phase.
+#[derive(Default)]
+pub struct Visits {
+    pub calls: u64,
+    pub cycles: u64,
+    pub damages: u64,
+    seen: HashMap<(std::mem::Discriminant<Call>, u64, u64), (Call, u64)>,
+}
+
+impl Visits {
+    fn count(&mut self, call: &Call, phase: u64, answer: &Numbers) {
+        self.calls += 1;
+        let ends_cycle = matches!(call, Call::SweepStep { .. }) && *answer == [0; 4];
+        self.cycles += u64::from(ends_cycle);
+        let entry = self.seen.entry((discriminant(call), phase, answer[0]));
+        entry.or_insert((*call, 0)).1 += 1;
+    }
+
+    /// How often the answer was this refusal; 0 for accepted calls.
+    pub fn refusals(&self, refusal: u64) -> u64 {
+        let seen = self.seen.iter().filter(|(key, _)| key.2 == refusal);
+        seen.map(|(_, (_, count))| count).sum()
+    }
+
+    /// In how many pairs of a call and a phase the call was accepted, legal
+    /// phases alone.
+    pub fn accepted_in_phase(&self) -> usize {
+        self.seen.keys().filter(|key| key.1 <= 2 && key.2 == 0).count()
+    }
+}
+
+/// One list on its way.
+struct List {
+    random: Random,
+    maker: CallMaker,
+    pages: u64,
+    /// Pages that the memory has room for.
+    room: u64,
+    plain: Memory,
+    proved: Memory,
+    /// The call that is the first setup, if the list needs one.
+    setup_at: Option<u64>,
+    /// Shares in a thousand of damage, of wild calls, of calls with one wrong
+    /// number and of odd lengths.
+    damage_share: u64,
+    wild_share: u64,
+    wrong_share: u64,
+    odd_share: u64,
+    /// What undoes the damage that was done last.
+    undo: Vec<Change>,
+}
+
+impl List {
+    fn new(random: Random, pages: u64) -> List {
+        let mut random = random;
+        let maker = CallMaker::new(&mut random, pages);
+        let room = pages + random.below(2);
+        let (plain, setup_at) = first_memory(&mut random, pages, room);
+        List {
+            maker,
+            pages,
+            room,
+            proved: plain.clone(),
+            plain,
+            setup_at,
+            damage_share: random.pick(&[0, 0, 3, 30, 300]),
+            wild_share: random.pick(&[0, 10, 50]),
+            wrong_share: random.pick(&[0, 10, 100]),
+            odd_share: random.pick(&[0, 2, 20]),
+            undo: Vec::new(),
+            random,
+        }
+    }
+
+    /// Carries out the next call on both sides; gives what differs then.
+    fn step(&mut self, step: u64, pair: &Pair, visits: &mut Visits) -> Option<Difference> {
+        self.damage_or_repair(visits);
+        let call = self.next_call(step);
+        let lengths = self.next_lengths(&call);
+        let phase = self.plain.roots()[PHASE];
+        let plain = (pair.plain)(&call, self.plain.lend(lengths));
+        let proved = (pair.proved)(&call, self.proved.lend(lengths));
+        visits.count(&call, phase, &plain);
+        if plain == proved && self.plain == self.proved {
+            return None;
+        }
+        let differences = self.plain.differences(&self.proved).take(SHOWN_WORDS);
+        let words = differences.map(|p| (p, self.plain.get(p), self.proved.get(p))).collect();
+        let pages = self.pages;
+        Some(Difference { list: 0, step, pages, call, lengths, plain, proved, words })
+    }
+
+    fn next_call(&mut self, step: u64) -> Call {
+        if self.setup_at == Some(step) {
+            return Call::Setup { pages: self.pages };
+        }
+        let before_setup = self.setup_at.is_some_and(|setup| step < setup);
+        if before_setup || self.random.chance(self.wild_share) {
+            return self.maker.wild_call(&mut self.random);
+        }
+        let call = self.maker.next(&mut self.random, self.plain.roots());
+        if self.random.chance(self.wrong_share) {
+            return with_one_number_changed(&mut self.random, call);
+        }
+        call
+    }
+
+    /// Mostly those of the list's P, now and then those of the call's own P,
+    /// or one of them odd.
+    fn next_lengths(&mut self, call: &Call) -> Lengths {
+        let usual = lengths(self.pages);
+        if call.pages() <= self.room && self.random.chance(500) {
+            return lengths(call.pages());
+        }
+        if !self.random.chance(self.odd_share) {
+            return usual;
+        }
+        let mut odd = usual;
+        let longest = self.plain.longest();
+        let buffer = self.random.below(4) as usize;
+        let (length, most) = (usual[buffer], longest[buffer]);
+        let any = self.random.below(most as u64 + 1) as usize;
+        odd[buffer] = self.random.pick(&[0, 1, length - 1, length + 1, length / 2, most, any]);
+        odd
+    }
+
+    fn damage_or_repair(&mut self, visits: &mut Visits) {
+        if self.undo.is_empty() {
+            if self.random.chance(self.damage_share) {
+                visits.damages += 1;
+                self.damage();
+            }
+        } else if self.random.chance(300) {
+            for (place, value) in std::mem::take(&mut self.undo).into_iter().rev() {
+                self.change(place, value);
+            }
+        } else if self.random.chance(30) {
+            self.undo.clear();
+        }
+    }
+
+    fn damage(&mut self) {
+        for _ in 0..1 + self.random.below(3) {
+            let (place, value) = random_change(&mut self.random, &self.plain, self.pages);
+            self.undo.push((place, self.plain.get(place)));
+            self.change(place, value);
+        }
+    }
+
+    fn change(&mut self, place: Place, value: u64) {
+        self.plain.set(place, value);
+        self.proved.set(place, value);
+    }
+}
+
+/// What a list begins on, and which call has to be its first setup.
+fn first_memory(random: &mut Random, pages: u64, room: u64) -> (Memory, Option<u64>) {
+    if random.chance(400) {
+        return (random_heap(random, pages, room), None);
+    }
+    let mut memory = Memory::new(room);
+    if random.chance(500) {
+        fill_with_anything(random, &mut memory, pages);
+    }
+    (memory, Some(random.below(4)))
+}
+
+/// How many pages and calls a list has: few lists are long or have many pages.
+fn extent(random: &mut Random) -> (u64, u64) {
+    if random.chance(15) {
+        return (random.pick(&[64, 150, 255, MAX_PAGES]), 10 + random.below(80));
+    }
+    let pages = random.pick(&[1, 1, 1, 1, 1, 2, 2, 2, 3, 3, 5, 8, 13]);
+    let length = match random.below(40) {
+        0 => 1000 + random.below(4000),
+        1..=12 => 1 + random.below(30),
+        _ => 20 + random.below(400),
+    };
+    (pages, length)
+}
+
+/// Carries out the list of this number; the same seed gives the same list.
+pub fn run_list(
+    seed: u64,
+    list: u64,
+    pair: &Pair,
+    visits: &mut Visits,
+) -> Result<(), Box<Difference>> {
+    let mut random = Random::new(Random::new(seed).number() ^ Random::new(list).number());
+    let (pages, length) = extent(&mut random);
+    let mut running = List::new(random, pages);
+    for step in 0..length {
+        if let Some(difference) = running.step(step, pair, visits) {
+            return Err(Box::new(Difference { list, ..difference }));
+        }
+    }
+    Ok(())
+}
