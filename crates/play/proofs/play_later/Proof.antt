@@ -1,0 +1,78 @@
+-- `play::play_later` is safe: the pages are 8 at most, so their parts lie within the buffers.
+use mathlib.Core.Path.{sym}
+use Prim.Native.Nat.{_*_}
+use native.Mathlib.Omega.{arith}
+use lib.Seq.{length-take-le}
+use denote.Ref.{now}
+use borrow.Author.Needs.{needs}
+use Rattle.play.proofs.play_later.Statement.{statement}
+use Rattle.play.proofs.play_later.Tie as tie
+
+mul-words : tie.Need-mul-words
+mul-words c = search needs
+
+mul-entries : tie.Need-mul-entries
+mul-entries c = search needs
+
+mul-marks : tie.Need-mul-marks
+mul-marks c = search needs
+
+slice-relend-prefix-later-line : tie.Need-slice-relend-prefix-later-line
+slice-relend-prefix-later-line c = search needs
+
+slice-aggregate-later-line : tie.Need-slice-aggregate-later-line
+slice-aggregate-later-line c = sym (length-take-le (1024 * (c .before .before .before .before .before .before .before .args .p)) (now (c .before .before .before .before .before .before .before .args .arena)) (omega (arith, c .before .before .before .before .before .before .before .pre .0, c .before .before .before .before .before .before .before .pre .1 .0)))
+
+slice-relend-prefix-later-line-2 : tie.Need-slice-relend-prefix-later-line-2
+slice-relend-prefix-later-line-2 c = search needs
+
+slice-aggregate-later-line-2 : tie.Need-slice-aggregate-later-line-2
+slice-aggregate-later-line-2 c = sym (length-take-le (3 * (c .before .before .before .before .before .before .before .before .args .p)) (now (c .before .before .before .before .before .before .before .before .args .table)) (omega (arith, c .before .before .before .before .before .before .before .before .pre .0, c .before .before .before .before .before .before .before .before .pre .1 .0)))
+
+slice-relend-prefix-later-line-3 : tie.Need-slice-relend-prefix-later-line-3
+slice-relend-prefix-later-line-3 c = search needs
+
+slice-aggregate-later-line-3 : tie.Need-slice-aggregate-later-line-3
+slice-aggregate-later-line-3 c = sym (length-take-le (64 * (c .before .before .before .before .before .before .before .before .before .args .p)) (now (c .before .before .before .before .before .before .before .before .before .args .bits)) (omega (arith, c .before .before .before .before .before .before .before .before .before .pre .0, c .before .before .before .before .before .before .before .before .before .pre .1 .0)))
+
+later-line-requires : tie.Need-later-line-requires
+later-line-requires c κs = search needs
+
+same-length : tie.Need-same-length
+same-length c = search needs
+
+same-length-2 : tie.Need-same-length-2
+same-length-2 c = search needs
+
+same-length-3 : tie.Need-same-length-3
+same-length-3 c = search needs
+
+same-length-4 : tie.Need-same-length-4
+same-length-4 c = search needs
+
+same-length-5 : tie.Need-same-length-5
+same-length-5 c = search needs
+
+returns : tie.Need-returns
+returns c = search needs
+
+pub play-later-spec : {M : Type 1} → statement M
+play-later-spec =
+    tie.close
+    (tie.spec
+    mul-words
+    mul-entries
+    mul-marks
+    slice-relend-prefix-later-line
+    slice-aggregate-later-line
+    slice-relend-prefix-later-line-2
+    slice-aggregate-later-line-2
+    slice-relend-prefix-later-line-3
+    slice-aggregate-later-line-3
+    later-line-requires
+    same-length
+    same-length-2
+    same-length-3
+    same-length-4
+    same-length-5
+    returns)

@@ -1,0 +1,257 @@
+// Plays a trace: standard input in blocks, the work of each line by the library `trace`, standard
+// output in blocks. Memory is fixed: a line that is too long ends the run as soon as that shows.
+ghost use mathlib.Core.Path.{_≡_};
+ghost use Prim.Native.Nat.{_+_, _≤_};
+ghost use lib.ListN.{length};
+ghost use Rattle.play.specs.Run.{Sized, Fits};
+
+const STDIN: i32 = 0;
+
+const STDOUT: i32 = 1;
+
+const LINE_FEED: u8 = 10;
+
+// How far the run is: P (0 before the first line), the lines played, the bytes of the line under
+// way, the bytes of output that wait, and whether the run goes on.
+pub struct Progress {
+    pub pages: u64,
+    pub lines: u64,
+    pub used: usize,
+    pub at: usize,
+    pub more: bool,
+}
+
+// The first line, on the part of each buffer that the pages it asks for take.
+fn play_first(
+    arena: &mut [u64],
+    table: &mut [u32],
+    bits: &mut [u64],
+    roots: &mut [u64],
+    out: &mut [u8],
+    line: &[u8],
+    at: usize,
+) -> Progress
+    requires { ⌜ Sized (now arena) (now table) (now bits) (now roots) (now out) ⌝ }
+    requires { ⌜ at + 66 ≤ 65536 ⌝ }
+    ensures { λ r. ⌜ Fits r ⌝ }
+{
+    let p = trace::pages(line);
+    let n = p as usize;
+    let words = units::PAGE_WORDS * n;
+    let entries = units::ENTRY_NUMBERS * n;
+    let marks = units::BITMAP_WORDS * n;
+    let step = trace::first_line(
+        &mut arena[..words],
+        &mut table[..entries],
+        &mut bits[..marks],
+        roots,
+        line,
+        out,
+        at,
+    );
+    Progress {
+        pages: p,
+        lines: 1,
+        used: 0,
+        at: step.at,
+        more: step.more,
+    }
+}
+
+// A later line, on the part of each buffer that the run's pages take.
+fn play_later(
+    arena: &mut [u64],
+    table: &mut [u32],
+    bits: &mut [u64],
+    roots: &mut [u64],
+    out: &mut [u8],
+    line: &[u8],
+    p: u64,
+    number: u64,
+    at: usize,
+) -> Progress
+    requires { ⌜ Sized (now arena) (now table) (now bits) (now roots) (now out) ⌝ }
+    requires { ⌜ (p ≤ 8) × (at + 66 ≤ 65536) ⌝ }
+    ensures { λ r. ⌜ Fits r ⌝ }
+{
+    let n = p as usize;
+    let words = units::PAGE_WORDS * n;
+    let entries = units::ENTRY_NUMBERS * n;
+    let marks = units::BITMAP_WORDS * n;
+    let step = trace::later_line(
+        p,
+        &mut arena[..words],
+        &mut table[..entries],
+        &mut bits[..marks],
+        roots,
+        number,
+        line,
+        out,
+        at,
+    );
+    Progress {
+        pages: p,
+        lines: number,
+        used: 0,
+        at: step.at,
+        more: step.more,
+    }
+}
+
+// Room for one more line of output: what waits is written where it has to be.
+fn room(out: &[u8], at: usize) -> usize
+    requires { ⌜ (at ≤ 65536) × (length (now out) ≡ 65536) ⌝ }
+    ensures { λ r. ⌜ r + 66 ≤ 65536 ⌝ }
+{
+    if at + answers::LONGEST <= out.len() {
+        return at;
+    }
+    io::write_all(STDOUT, &out[..at]);
+    0
+}
+
+// A line that was read to its end.
+fn play_line(
+    arena: &mut [u64],
+    table: &mut [u32],
+    bits: &mut [u64],
+    roots: &mut [u64],
+    out: &mut [u8],
+    line: &[u8],
+    run: Progress,
+) -> Progress
+    requires { ⌜ Sized (now arena) (now table) (now bits) (now roots) (now out) ⌝ }
+    requires { ⌜ Fits run ⌝ }
+    ensures { λ r. ⌜ Fits r ⌝ }
+{
+    let at = room(out, run.at);
+    if run.lines == 0 {
+        return play_first(arena, table, bits, roots, out, line, at);
+    }
+    let number = std::num::wrapping_add_u64(run.lines, 1);
+    play_later(arena, table, bits, roots, out, line, run.pages, number, at)
+}
+
+// The bytes of a block, one after the other. Where a line gets too long, the run ends with the line
+// under way.
+fn feed(
+    arena: &mut [u64],
+    table: &mut [u32],
+    bits: &mut [u64],
+    roots: &mut [u64],
+    out: &mut [u8],
+    line: &mut [u8],
+    block: &[u8],
+    from: Progress,
+) -> Progress
+    requires { ⌜ Sized (now arena) (now table) (now bits) (now roots) (now out) ⌝ }
+    requires { ⌜ (Fits from) × (length (now line) ≡ 80) ⌝ }
+    ensures { λ r. ⌜ Fits r ⌝ }
+{
+    let mut run = from;
+    let mut used = from.used;
+    let mut i = 0;
+    while i < block.len() {
+        let b = block[i];
+        i += 1;
+        if b == LINE_FEED {
+            run = play_line(arena, table, bits, roots, out, &line[..used], run);
+            if !run.more {
+                return run;
+            }
+            used = 0;
+        } else {
+            if used == lines::LONGEST {
+                return Progress {
+                    pages: run.pages,
+                    lines: run.lines,
+                    used,
+                    at: run.at,
+                    more: false,
+                };
+            }
+            line[used] = b;
+            used += 1;
+        }
+    }
+    Progress {
+        pages: run.pages,
+        lines: run.lines,
+        used,
+        at: run.at,
+        more: true,
+    }
+}
+
+// What waits is written.
+fn flushed(out: &[u8], run: Progress) -> Progress
+    requires { ⌜ (Fits run) × (length (now out) ≡ 65536) ⌝ }
+    ensures { λ r. ⌜ Fits r ⌝ }
+{
+    let at = run.at;
+    io::write_all(STDOUT, &out[..at]);
+    Progress {
+        pages: run.pages,
+        lines: run.lines,
+        used: run.used,
+        at: 0,
+        more: run.more,
+    }
+}
+
+// The end of the run: what waits is written. A line under way does not read, nor does an input with
+// no line at all.
+fn end(out: &mut [u8], run: Progress)
+    requires { ⌜ (Fits run) × (length (now out) ≡ 65536) ⌝ }
+{
+    let at = run.at;
+    io::write_all(STDOUT, &out[..at]);
+    if run.used == 0 && run.lines != 0 {
+        return;
+    }
+    let number = std::num::wrapping_add_u64(run.lines, 1);
+    let n = answers::write_bad(out, 0, number);
+    io::write_all(STDOUT, &out[..n]);
+}
+
+fn main() {
+    let mut arena = [0u64; 8192];
+    let mut table = [0u32; 24];
+    let mut bits = [0u64; 512];
+    let mut roots = [0u64; 562];
+    let mut line = [0u8; 80];
+    let mut block = io::large_buffer();
+    let mut out = io::large_buffer();
+    let mut run = Progress {
+        pages: 0,
+        lines: 0,
+        used: 0,
+        at: 0,
+        more: true,
+    };
+    let mut turns = u64::MAX;
+    while 0 < turns {
+        let got = libc::read(STDIN, &mut block);
+        let n = io::count(got, &block);
+        if n == 0 {
+            end(&mut out, run);
+            return;
+        }
+        run = feed(
+            &mut arena,
+            &mut table,
+            &mut bits,
+            &mut roots,
+            &mut out,
+            &mut line,
+            &block[..n],
+            run,
+        );
+        if !run.more {
+            end(&mut out, run);
+            return;
+        }
+        run = flushed(&out, run);
+        turns -= 1;
+    }
+}
