@@ -2,8 +2,8 @@
 -- of a span of class c with n pages; `class-small`, `size-shape` and `size-fits` say what a size gets.
 use Prim.Native.Nat.{ℕ, zero, suc, _+_, _-_, _*_, _/_, _%_, _<_, _≤_}
 use mathlib.Core.Bool.{Bool, true, false, cond, _&&_}
-use mathlib.Core.Path.{_≡_, refl, ap}
-use native.Mathlib.Nat.{div-mul-le-self, mul-assoc, le-div-iff-mul-le, lt-of-not-le}
+use mathlib.Core.Path.{_≡_, refl, _∙_, ap}
+use native.Mathlib.Nat.{div-mul-le-self, mul-assoc, mul-div-mul-left, le-div-iff-mul-le, lt-of-not-le}
 use native.Mathlib.Omega.{arith}
 use lib.Dec.{T, eqb, ltb}
 use borrow.Author.Tests.{lt-ltb, le-ltb, leb-true, leb-false, ltb-true, ltb-false, eqb-true, eqb-false, eq-eqb, ne-eqb}
@@ -91,6 +91,15 @@ elements-large = refl
 pub elements-small : (c : ℕ) → 0 < c → elementsOf c ≡ spanBytes c / elementBytes c
 unfolding elementsOf
 elements-small c h = rw (ne-eqb c 0 (omega arith))
+
+-- .. in words: those of a span's pages by those of an element
+pub elements-by-words : (c : ℕ) → 0 < c → c ≤ rows → elementsOf c ≡ pageWords * classPages c / (elementBytes c / wordBytes)
+elements-by-words c h l =
+    let r = row-facts c h l in
+    let s : spanBytes c ≡ wordBytes * (pageWords * classPages c) = omega (arith, r .whole) in
+    let e : elementBytes c ≡ wordBytes * (elementBytes c / wordBytes) = omega (arith, r .words) in
+    elements-small c h ∙ ap (λ x. x / elementBytes c) s ∙ ap (λ x. wordBytes * (pageWords * classPages c) / x) e
+    ∙ mul-div-mul-left (pageWords * classPages c) (elementBytes c / wordBytes) (omega arith)
 
 shape-large : (n : ℕ) → 5 ≤ n → n ≤ 128 → Shape 0 n
 shape-large n h l = record {

@@ -1,14 +1,15 @@
 // Size classes: the table of the 66 classes, the class, the kind and the pages that a size takes,
-// and what a span of a class holds. Each function gives the model's definition of the same name
-// (specs/Classes.antt).
+// and what a span of a class holds. Each public function but `starts` gives the model's definition
+// of the same name (specs/Classes.antt). The compiler builds the table on the stack in each call
+// that reads it, so its rows are small.
 ghost use mathlib.Core.Bool.{cond};
+ghost use mathlib.Core.List.{map};
 ghost use mathlib.Core.Path.{_≡_};
-ghost use Prim.Native.Nat.{ℕ, _%_, _^_, _≤_, _<_};
+ghost use Prim.Native.Nat.{ℕ, _/_, _%_, _^_, _≤_, _<_};
 ghost use lib.Dec.{eqb};
-ghost use lib.ListN.{getD};
 ghost use Rattle.model.specs.Bitmaps.{bitOf};
-ghost use Rattle.model.specs.Classes.{_per_, rows, classRows, elementBytes, spanBytes, classOf, kindOf, pagesFor, classPages, elementWordsOf, elementsOf};
-use model::ClassRow;
+ghost use Rattle.model.specs.Memory.{pageBytes, wordBytes};
+ghost use Rattle.model.specs.Classes.{rows, classRows, elementBytes, classOf, kindOf, pagesFor, classPages, elementWordsOf, elementsOf};
 use units::PAGE_BYTES;
 use units::PAGE_WORDS;
 use units::WORD_BITS;
@@ -25,271 +26,262 @@ pub const MAX_SIZE: u64 = 1048576;
 // The kinds: 67 classes, scan and noscan.
 pub const KINDS: u64 = 134;
 
+// An element is whole words, a span whole pages.
+struct Row {
+    words: u16,
+    pages: u16,
+}
+
 // Row k is that of class k + 1; class 0 has none.
-const CLASS_ROWS: [ClassRow; ROWS] = [
-    ClassRow {
-        element: 8,
-        span: 8192,
-    },
-    ClassRow {
-        element: 16,
-        span: 8192,
-    },
-    ClassRow {
-        element: 32,
-        span: 8192,
-    },
-    ClassRow {
-        element: 48,
-        span: 8192,
-    },
-    ClassRow {
-        element: 64,
-        span: 8192,
-    },
-    ClassRow {
-        element: 80,
-        span: 8192,
-    },
-    ClassRow {
-        element: 96,
-        span: 8192,
-    },
-    ClassRow {
-        element: 112,
-        span: 8192,
-    },
-    ClassRow {
-        element: 128,
-        span: 8192,
-    },
-    ClassRow {
-        element: 144,
-        span: 8192,
-    },
-    ClassRow {
-        element: 160,
-        span: 8192,
-    },
-    ClassRow {
-        element: 176,
-        span: 8192,
-    },
-    ClassRow {
-        element: 192,
-        span: 8192,
-    },
-    ClassRow {
-        element: 208,
-        span: 8192,
-    },
-    ClassRow {
-        element: 224,
-        span: 8192,
-    },
-    ClassRow {
-        element: 240,
-        span: 8192,
-    },
-    ClassRow {
-        element: 256,
-        span: 8192,
-    },
-    ClassRow {
-        element: 288,
-        span: 8192,
-    },
-    ClassRow {
-        element: 320,
-        span: 8192,
-    },
-    ClassRow {
-        element: 352,
-        span: 8192,
-    },
-    ClassRow {
-        element: 384,
-        span: 8192,
-    },
-    ClassRow {
-        element: 416,
-        span: 8192,
-    },
-    ClassRow {
-        element: 448,
-        span: 8192,
-    },
-    ClassRow {
-        element: 480,
-        span: 8192,
-    },
-    ClassRow {
-        element: 512,
-        span: 8192,
-    },
-    ClassRow {
-        element: 576,
-        span: 8192,
-    },
-    ClassRow {
-        element: 640,
-        span: 8192,
-    },
-    ClassRow {
-        element: 704,
-        span: 8192,
-    },
-    ClassRow {
-        element: 768,
-        span: 8192,
-    },
-    ClassRow {
-        element: 896,
-        span: 8192,
-    },
-    ClassRow {
-        element: 1024,
-        span: 8192,
-    },
-    ClassRow {
-        element: 1152,
-        span: 8192,
-    },
-    ClassRow {
-        element: 1280,
-        span: 8192,
-    },
-    ClassRow {
-        element: 1408,
-        span: 16384,
-    },
-    ClassRow {
-        element: 1536,
-        span: 8192,
-    },
-    ClassRow {
-        element: 1792,
-        span: 16384,
-    },
-    ClassRow {
-        element: 2048,
-        span: 8192,
-    },
-    ClassRow {
-        element: 2304,
-        span: 16384,
-    },
-    ClassRow {
-        element: 2688,
-        span: 8192,
-    },
-    ClassRow {
-        element: 3072,
-        span: 24576,
-    },
-    ClassRow {
-        element: 3200,
-        span: 16384,
-    },
-    ClassRow {
-        element: 3456,
-        span: 24576,
-    },
-    ClassRow {
-        element: 4096,
-        span: 8192,
-    },
-    ClassRow {
-        element: 4864,
-        span: 24576,
-    },
-    ClassRow {
-        element: 5376,
-        span: 16384,
-    },
-    ClassRow {
-        element: 6144,
-        span: 24576,
-    },
-    ClassRow {
-        element: 6528,
-        span: 32768,
-    },
-    ClassRow {
-        element: 6784,
-        span: 40960,
-    },
-    ClassRow {
-        element: 6912,
-        span: 49152,
-    },
-    ClassRow {
-        element: 8192,
-        span: 8192,
-    },
-    ClassRow {
-        element: 9472,
-        span: 57344,
-    },
-    ClassRow {
-        element: 9728,
-        span: 49152,
-    },
-    ClassRow {
-        element: 10240,
-        span: 40960,
-    },
-    ClassRow {
-        element: 10880,
-        span: 32768,
-    },
-    ClassRow {
-        element: 12288,
-        span: 24576,
-    },
-    ClassRow {
-        element: 13568,
-        span: 40960,
-    },
-    ClassRow {
-        element: 14336,
-        span: 57344,
-    },
-    ClassRow {
-        element: 16384,
-        span: 16384,
-    },
-    ClassRow {
-        element: 18432,
-        span: 73728,
-    },
-    ClassRow {
-        element: 19072,
-        span: 57344,
-    },
-    ClassRow {
-        element: 20480,
-        span: 40960,
-    },
-    ClassRow {
-        element: 21760,
-        span: 65536,
-    },
-    ClassRow {
-        element: 24576,
-        span: 24576,
-    },
-    ClassRow {
-        element: 27264,
-        span: 81920,
-    },
-    ClassRow {
-        element: 28672,
-        span: 57344,
-    },
-    ClassRow {
-        element: 32768,
-        span: 32768,
+const CLASS_ROWS: [Row; ROWS] = [
+    Row { words: 1, pages: 1 },
+    Row { words: 2, pages: 1 },
+    Row { words: 4, pages: 1 },
+    Row { words: 6, pages: 1 },
+    Row { words: 8, pages: 1 },
+    Row {
+        words: 10,
+        pages: 1,
+    },
+    Row {
+        words: 12,
+        pages: 1,
+    },
+    Row {
+        words: 14,
+        pages: 1,
+    },
+    Row {
+        words: 16,
+        pages: 1,
+    },
+    Row {
+        words: 18,
+        pages: 1,
+    },
+    Row {
+        words: 20,
+        pages: 1,
+    },
+    Row {
+        words: 22,
+        pages: 1,
+    },
+    Row {
+        words: 24,
+        pages: 1,
+    },
+    Row {
+        words: 26,
+        pages: 1,
+    },
+    Row {
+        words: 28,
+        pages: 1,
+    },
+    Row {
+        words: 30,
+        pages: 1,
+    },
+    Row {
+        words: 32,
+        pages: 1,
+    },
+    Row {
+        words: 36,
+        pages: 1,
+    },
+    Row {
+        words: 40,
+        pages: 1,
+    },
+    Row {
+        words: 44,
+        pages: 1,
+    },
+    Row {
+        words: 48,
+        pages: 1,
+    },
+    Row {
+        words: 52,
+        pages: 1,
+    },
+    Row {
+        words: 56,
+        pages: 1,
+    },
+    Row {
+        words: 60,
+        pages: 1,
+    },
+    Row {
+        words: 64,
+        pages: 1,
+    },
+    Row {
+        words: 72,
+        pages: 1,
+    },
+    Row {
+        words: 80,
+        pages: 1,
+    },
+    Row {
+        words: 88,
+        pages: 1,
+    },
+    Row {
+        words: 96,
+        pages: 1,
+    },
+    Row {
+        words: 112,
+        pages: 1,
+    },
+    Row {
+        words: 128,
+        pages: 1,
+    },
+    Row {
+        words: 144,
+        pages: 1,
+    },
+    Row {
+        words: 160,
+        pages: 1,
+    },
+    Row {
+        words: 176,
+        pages: 2,
+    },
+    Row {
+        words: 192,
+        pages: 1,
+    },
+    Row {
+        words: 224,
+        pages: 2,
+    },
+    Row {
+        words: 256,
+        pages: 1,
+    },
+    Row {
+        words: 288,
+        pages: 2,
+    },
+    Row {
+        words: 336,
+        pages: 1,
+    },
+    Row {
+        words: 384,
+        pages: 3,
+    },
+    Row {
+        words: 400,
+        pages: 2,
+    },
+    Row {
+        words: 432,
+        pages: 3,
+    },
+    Row {
+        words: 512,
+        pages: 1,
+    },
+    Row {
+        words: 608,
+        pages: 3,
+    },
+    Row {
+        words: 672,
+        pages: 2,
+    },
+    Row {
+        words: 768,
+        pages: 3,
+    },
+    Row {
+        words: 816,
+        pages: 4,
+    },
+    Row {
+        words: 848,
+        pages: 5,
+    },
+    Row {
+        words: 864,
+        pages: 6,
+    },
+    Row {
+        words: 1024,
+        pages: 1,
+    },
+    Row {
+        words: 1184,
+        pages: 7,
+    },
+    Row {
+        words: 1216,
+        pages: 6,
+    },
+    Row {
+        words: 1280,
+        pages: 5,
+    },
+    Row {
+        words: 1360,
+        pages: 4,
+    },
+    Row {
+        words: 1536,
+        pages: 3,
+    },
+    Row {
+        words: 1696,
+        pages: 5,
+    },
+    Row {
+        words: 1792,
+        pages: 7,
+    },
+    Row {
+        words: 2048,
+        pages: 2,
+    },
+    Row {
+        words: 2304,
+        pages: 9,
+    },
+    Row {
+        words: 2384,
+        pages: 7,
+    },
+    Row {
+        words: 2560,
+        pages: 5,
+    },
+    Row {
+        words: 2720,
+        pages: 8,
+    },
+    Row {
+        words: 3072,
+        pages: 3,
+    },
+    Row {
+        words: 3408,
+        pages: 10,
+    },
+    Row {
+        words: 3584,
+        pages: 7,
+    },
+    Row {
+        words: 4096,
+        pages: 4,
     },
 ];
 
@@ -361,27 +353,19 @@ const STARTS: [u64; WORD_BITS] = [
     0x8000000000000001,
 ];
 
-fn row(k: usize) -> ClassRow
-    requires { ⌜ k < rows ⌝ }
-    ensures { λ r. ⌜ r ≡ getD classRows k (0 per 0) ⌝ }
+// Alone in reading CLASS_ROWS, so that one proof ties it to the model's rows.
+fn table() -> [Row; ROWS]
+    ensures { λ r. ⌜ r ≡ map (λ x. record { words = x .element / wordBytes; pages = x .span / pageBytes }) classRows ⌝ }
 {
-    CLASS_ROWS[k]
+    CLASS_ROWS
 }
 
-// The bytes of an element of class c.
-pub fn element_bytes(c: usize) -> u64
+fn row_of(c: usize) -> Row
     requires { ⌜ (1 ≤ c) × (c ≤ rows) ⌝ }
-    ensures { λ r. ⌜ r ≡ elementBytes c ⌝ }
+    ensures { λ r. ⌜ (r .words ≡ elementBytes c / wordBytes) × (r .pages ≡ classPages c) ⌝ }
 {
-    row(c - 1).element
-}
-
-// The bytes of a span of class c.
-pub fn span_bytes(c: usize) -> u64
-    requires { ⌜ (1 ≤ c) × (c ≤ rows) ⌝ }
-    ensures { λ r. ⌜ r ≡ spanBytes c ⌝ }
-{
-    row(c - 1).span
+    let rows = table();
+    rows[c - 1]
 }
 
 // The lowest class whose element is at least that large; 0 for a size that gets pages of its own.
@@ -391,9 +375,11 @@ pub fn class_of(size: u64) -> usize
     if MAX_SMALL < size {
         return 0;
     }
+    // One table for all turns of the loop.
+    let rows = table();
     let mut k = 0;
     while k < ROWS {
-        if size <= element_bytes(k + 1) {
+        if size <= WORD_BYTES * rows[k].words as u64 {
             return k + 1;
         }
         k += 1;
@@ -417,7 +403,7 @@ pub fn class_pages(c: usize) -> usize
     requires { ⌜ (1 ≤ c) × (c ≤ rows) ⌝ }
     ensures { λ r. ⌜ r ≡ classPages c ⌝ }
 {
-    (span_bytes(c) / PAGE_BYTES) as usize
+    row_of(c).pages as usize
 }
 
 // The pages of a new span for the size. In class 0 the size is not 0, so that rounding it up does
@@ -440,7 +426,7 @@ pub fn element_words(c: usize, n: usize) -> usize
     if c == 0 {
         return PAGE_WORDS * n;
     }
-    (element_bytes(c) / WORD_BYTES) as usize
+    row_of(c).words as usize
 }
 
 // The elements of a span of class c.
@@ -451,7 +437,8 @@ pub fn elements(c: usize) -> usize
     if c == 0 {
         return 1;
     }
-    (span_bytes(c) / element_bytes(c)) as usize
+    let r = row_of(c);
+    PAGE_WORDS * r.pages as usize / r.words as usize
 }
 
 // The starts of elements of so many words in the 64 words from an element's first on: bit j is on

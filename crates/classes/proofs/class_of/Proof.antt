@@ -10,6 +10,7 @@ use borrow.Author.Tests.{lt-ltb, le-ltb, le-leb, lt-leb}
 use Rattle.model.specs.Bounded.{_≤?_}
 use Rattle.model.specs.Classes.{rows, maxSmall, elementBytes, classOf}
 use Rattle.model.proofs.Bounded.{first-is}
+use Rattle.classes.proofs.Compact.{bytes-at, small-at}
 use Rattle.classes.proofs.class_of.Statement.{statement}
 use Rattle.classes.proofs.class_of.Tie as tie
 
@@ -18,57 +19,70 @@ abbrev holds : ℕ → ℕ → Bool
 holds size k = size ≤? elementBytes (k + 1)
 
 abbrev Inv-loop : tie.InvT-loop
-Inv-loop size k₀ k = (k ≤ rows) × ((i : ℕ) → i < k → holds size i ≡ false)
+Inv-loop size t k₀ k = (k ≤ rows) × ((i : ℕ) → i < k → holds size i ≡ false)
 
 abbrev μ-loop : tie.MeasureT-loop
-μ-loop size k₀ k = rows - k
+μ-loop size t k₀ k = rows - k
 
 returns : tie.Need-returns Inv-loop μ-loop
 unfolding classOf
-returns c = rw (lt-ltb maxSmall (c .before .args .size) (c .if1 .taken))
+returns c = rw (lt-ltb maxSmall (c .before .args .size) (omega arith))
+
+table-requires : tie.Need-table-requires Inv-loop μ-loop
+table-requires c κs = search needs
 
 loop-holds : tie.Need-loop-holds Inv-loop μ-loop
 loop-holds c = (search needs, below-none _)
 
-add-element-bytes : tie.Need-add-element-bytes Inv-loop μ-loop
-add-element-bytes c = search needs
+mul-if2 : tie.Need-mul-if2 Inv-loop μ-loop
+mul-if2 c = omega arith
 
-element-bytes-requires : tie.Need-element-bytes-requires Inv-loop μ-loop
-element-bytes-requires c κs = search needs
+element-copy-out-if2 : tie.Need-element-copy-out-if2 Inv-loop μ-loop
+element-copy-out-if2 c = omega arith
+
+cast-if2 : tie.Need-cast-if2 Inv-loop μ-loop
+cast-if2 c = omega (arith, small-at _ (c .before .before .table .ensures) (c .before .loop .k) (omega arith))
+
+mul-if2-2 : tie.Need-mul-if2-2 Inv-loop μ-loop
+mul-if2-2 c = record { fits = omega (arith, small-at _ (c .before .before .table .ensures) (c .before .loop .k) (omega arith)) }
 
 add-result : tie.Need-add-result Inv-loop μ-loop
-add-result c = search needs
+add-result c = omega arith
 
 returns-2 : tie.Need-returns-2 Inv-loop μ-loop
 unfolding classOf
 returns-2 c =
-    let k = c .before .before .before .loop .k in
+    let k = c .before .before .loop .k in
     let size = c .before .before .before .before .before .args .size in
     rw (
-      le-ltb maxSmall size (c .before .before .before .before .if1 .left),
+      le-ltb maxSmall size (omega arith),
       first-is rows (holds size) k
-          (record { within = omega arith; before = c .before .before .before .loop .inv .1; holds = λ _. rw (← c .before .element-bytes .ensures) (le-leb _ _ (c .if2 .taken)) }),
+          (record { within = omega arith; before = c .before .before .loop .inv .1; holds = λ h. le-leb size (elementBytes (k + 1)) (omega (arith, bytes-at _ (c .before .before .before .table .ensures) k h)) }),
     )
 
 add-k : tie.Need-add-k Inv-loop μ-loop
-add-k c = search needs
+add-k c = omega arith
 
 loop-less : tie.Need-loop-less Inv-loop μ-loop
-loop-less c = search needs
+loop-less c = omega arith
 
 loop-again : tie.Need-loop-again Inv-loop μ-loop
-loop-again c = (search needs, below-more _ _ (c .before .before .before .loop .inv .1) (rw (← c .before .element-bytes .ensures) (lt-leb _ _ (c .if2 .left))))
+loop-again c =
+    let k = c .before .before .loop .k in
+    let size = c .before .before .before .before .before .args .size in
+    let e = bytes-at _ (c .before .before .before .table .ensures) k (omega arith) in
+    (omega arith, below-more (λ i. holds size i ≡ false) k (c .before .before .loop .inv .1) (lt-leb size (elementBytes (k + 1)) (omega arith)))
 
 add-result-2 : tie.Need-add-result-2 Inv-loop μ-loop
-add-result-2 c = search needs
+add-result-2 c = omega arith
 
 returns-3 : tie.Need-returns-3 Inv-loop μ-loop
 unfolding classOf
 returns-3 c =
     let k = c .before .loop .k in
-    let size = c .before .before .before .args .size in
+    let size = c .before .before .before .before .args .size in
     rw (
-      le-ltb maxSmall size (c .before .before .if1 .left),
+      le-ltb maxSmall size (omega arith),
       first-is rows (holds size) k
           (record { within = omega arith; before = c .before .loop .inv .1; holds = λ l. absurd (omega arith) }),
     )
@@ -80,9 +94,12 @@ class-of-spec =
     Inv-loop
     μ-loop
     returns
+    table-requires
     loop-holds
-    add-element-bytes
-    element-bytes-requires
+    mul-if2
+    element-copy-out-if2
+    cast-if2
+    mul-if2-2
     add-result
     returns-2
     add-k

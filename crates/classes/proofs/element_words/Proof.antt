@@ -12,12 +12,15 @@ returns : tie.Need-returns
 unfolding elementWordsOf
 returns c = rw (eq-eqb _ _ (c .if1 .taken))
 
-element-bytes-requires : tie.Need-element-bytes-requires
-element-bytes-requires c κs = search needs
+row-of-requires : tie.Need-row-of-requires
+row-of-requires c κs = search needs
+
+cast-result : tie.Need-cast-result
+cast-result c = search needs
 
 returns-2 : tie.Need-returns-2
 unfolding elementWordsOf
-returns-2 c = rw (ne-eqb _ _ (c .before .if1 .left), c .element-bytes .ensures)
+returns-2 c = rw (ne-eqb _ _ (c .before .before .if1 .left), c .before .row-of .ensures .0)
 
 pub element-words-spec : {M : Type 1} → statement M
-element-words-spec = tie.close (tie.spec mul-result returns element-bytes-requires returns-2)
+element-words-spec = tie.close (tie.spec mul-result returns row-of-requires cast-result returns-2)

@@ -18,11 +18,11 @@ add-result c = record { fits = omega (arith, c .before .class-of .ensures, class
 
 returns : tie.Need-returns
 unfolding kindOf
-returns c = rw (eq-eqb (c .before .before .args .p) 0 (c .if1 .taken), c .before .class-of .ensures)
+returns c = rw (eq-eqb (c .before .before .args .p) 0 (omega arith), c .before .class-of .ensures)
 
 returns-2 : tie.Need-returns-2
 unfolding kindOf
-returns-2 c = rw (ne-eqb (c .before .before .args .p) 0 (c .if1 .left), c .before .class-of .ensures) (omega arith)
+returns-2 c = rw (ne-eqb (c .before .before .args .p) 0 (omega arith), c .before .class-of .ensures) (omega arith)
 
 pub kind-of-spec : {M : Type 1} → statement M
 kind-of-spec = tie.close (tie.spec class-of-requires mul-kind add-result returns returns-2)
