@@ -1,8 +1,12 @@
 -- The parts of the audit joined: what each part may assume of those before it, and what a part that says no, or the last that says yes, comes to.
-use mathlib.Core.Bool.{Bool, true, false}
+use Prim.Native.Nat.{ℕ}
+use mathlib.Core.Bool.{Bool, true, false, not}
+use mathlib.Core.List.{List}
+use mathlib.Core.Logic.{_≢_}
 use mathlib.Core.Path.{_≡_, refl}
-use lib.Dec.{T}
+use lib.Dec.{T, eqb}
 use lib.ListN.{getD}
+use borrow.Author.Tests.{eqb-false, not-true}
 use Rattle.model.specs.Memory.{Heap}
 use Rattle.model.specs.Audit.{audit}
 use Rattle.model.proofs.Tests.{is-true, same-test}
@@ -11,7 +15,7 @@ use Rattle.model.proofs.Facts.{Sized, Bits, Phases, States, Occupied, Audited}
 use Rattle.model.proofs.Audit.{audit-facts, facts-audit}
 use Rattle.audit_pages.specs.Pages.{Pages}
 use Rattle.audit_bits.specs.Needs.{Lent}
-use Rattle.audit_words.specs.Contents.{Spanned, Filled, Roots, Contents}
+use Rattle.audit_words.specs.Contents.{Spanned, Filled, Swept, Told, Roots, Contents}
 
 module _ (h : Heap) (Z : Sized h) where
   -- a part says no
@@ -42,6 +46,10 @@ module _ (h : Heap) (Z : Sized h) where
       Roots (h .pages) (h .table) (h .bits) (h .roots) → Contents (h .pages) (h .arena) (h .table) (h .bits) → Audited h
   joined S F B O R C =
       record { sized = Z; spans = F .spans; bits = B .0; phases = B .1; references = record { root = R; content = C }; states = S; occupied = O }
+
+-- outside the sweep phase no span is unswept
+pub told : (phase : ℕ) (t : List ℕ) → (phase ≢ 2 → Swept t) → Told (not (eqb phase 2)) t
+told phase t h e = h (eqb-false phase 2 (not-true (eqb phase 2) e))
 
 -- what the page table's part says of an audited heap
 pub paged : (h : Heap) → Audited h → Pages (h .pages) (getD (h .roots) 561 0) (h .table)

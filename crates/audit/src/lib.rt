@@ -16,6 +16,7 @@ use units::MAX_PAGES;
 use units::PAGE_WORDS;
 use units::PHASE;
 use units::ROOT_WORDS;
+use units::SWEEP;
 
 // P is 1 to 256, and the four buffers have its lengths.
 pub fn buffers_ok(p: u64, arena: &[u64], table: &[u32], bits: &[u64], roots: &[u64]) -> bool
@@ -58,10 +59,11 @@ pub fn audit(p: usize, arena: &[u64], table: &[u32], bits: &[u64], roots: &[u64]
     if !audit_bits::occupied_ok(p, table, bits) {
         return false;
     }
-    if !audit_words::roots_ok(p, table, bits, roots) {
+    let swept = phase != SWEEP;
+    if !audit_words::roots_ok(p, table, bits, roots, swept) {
         return false;
     }
-    audit_words::contents_ok(p, arena, table, bits)
+    audit_words::contents_ok(p, arena, table, bits, swept)
 }
 
 // The refusal that every call after setup gives first: 1 for P and the lengths, 12 for damaged

@@ -26,23 +26,19 @@ use classes::starts;
 use pages::kind_entry;
 use pages::owner;
 use pages::page_count;
+use units::ALL_BITS;
 use units::MARK;
+use units::PAGE_BLOCKS;
 use units::PAGE_WORDS;
 use units::SWEEP;
 use units::UNSWEPT_FLAG;
 use units::WORD_BITS;
 
-// A word with every bit set.
-const ALL: u64 = 0xFFFF_FFFF_FFFF_FFFF;
-
-// The blocks of a page.
-const PAGE_BLOCKS: usize = 16;
-
 // A mask for every word of a block, or for none.
 fn flag(all: bool) -> u64
     ensures { λ r. ⌜ r ≡ cond all (2 ^ 64 - 1) 0 ⌝ }
 {
-    if all { ALL } else { 0 }
+    if all { ALL_BITS } else { 0 }
 }
 
 // The first `left` words of a block; all of them where there are not so many.
@@ -50,9 +46,9 @@ fn below(left: usize) -> u64
     ensures { λ r. ⌜ ((j : ℕ) → j < 64 → on r j ≡ (j <? left)) ⌝ }
 {
     if left < WORD_BITS {
-        return !(ALL << left);
+        return !(ALL_BITS << left);
     }
-    ALL
+    ALL_BITS
 }
 
 // The words at which elements start in a block, if the first of them is word `off`, or lies behind

@@ -7,7 +7,7 @@ use mathlib.Core.Path.{_≡_}
 use native.Mathlib.Omega.{arith}
 use lib.Dec.{T, eqb}
 use lib.ListN.{getD}
-use Rattle.model.specs.Memory.{stateAt, globalsStateAt, phaseAt, closed, scanned, grayState, sweep, mark, stacks}
+use Rattle.model.specs.Memory.{stateAt, globalsStateAt, phaseAt, closed, openState, grayState, sweep, mark, stacks}
 use Rattle.model.proofs.Tests.{eqb-iff}
 use Rattle.model.proofs.Facts.{States}
 use Rattle.audit_pages.specs.Stacks.{Phase, Empty, Stack}
@@ -20,11 +20,11 @@ module _ (r : List ℕ) where
       to : T (eqb (getD r phaseAt 0) mark) → Phase r
       to x = let e = eqb-iff (getD r phaseAt 0) mark .0 x in record { legal = omega arith; low = omega arith; high = omega arith; gray = λ _. e }
 
-  pub globals-scanned : getD r phaseAt 0 ≤ sweep → getD r globalsStateAt 0 ≢ grayState → T (eqb (getD r globalsStateAt 0) scanned) ↔ Phase r
-  globals-scanned l d = (to, λ h. eqb-iff (getD r globalsStateAt 0) scanned .1 (omega (arith, h .low, h .high)))
+  pub globals-scanned : getD r phaseAt 0 ≤ sweep → getD r globalsStateAt 0 ≢ grayState → T (eqb (getD r globalsStateAt 0) openState) ↔ Phase r
+  globals-scanned l d = (to, λ h. eqb-iff (getD r globalsStateAt 0) openState .1 (omega (arith, h .low, h .high)))
     where
-      to : T (eqb (getD r globalsStateAt 0) scanned) → Phase r
-      to x = let e = eqb-iff (getD r globalsStateAt 0) scanned .0 x in record { legal = l; low = omega arith; high = omega arith; gray = λ g. absurd (d g) }
+      to : T (eqb (getD r globalsStateAt 0) openState) → Phase r
+      to x = let e = eqb-iff (getD r globalsStateAt 0) openState .0 x in record { legal = l; low = omega arith; high = omega arith; gray = λ g. absurd (d g) }
 
   -- stack s: closed, gray, or else scanned
   module _ (s : ℕ) where
@@ -34,11 +34,11 @@ module _ (r : List ℕ) where
     pub stack-gray : getD r (stateAt s) 0 ≡ grayState → T (eqb (getD r phaseAt 0) mark) ↔ Stack r s
     stack-gray g = (λ x. record { high = omega arith; gray = λ _. eqb-iff (getD r phaseAt 0) mark .0 x; empty = λ z. absurd (omega arith) }, λ h. eqb-iff (getD r phaseAt 0) mark .1 (h .gray g))
 
-    pub stack-scanned : getD r (stateAt s) 0 ≢ closed → getD r (stateAt s) 0 ≢ grayState → T (eqb (getD r (stateAt s) 0) scanned) ↔ Stack r s
-    stack-scanned z d = (to, λ h. eqb-iff (getD r (stateAt s) 0) scanned .1 (omega (arith, h .high)))
+    pub stack-scanned : getD r (stateAt s) 0 ≢ closed → getD r (stateAt s) 0 ≢ grayState → T (eqb (getD r (stateAt s) 0) openState) ↔ Stack r s
+    stack-scanned z d = (to, λ h. eqb-iff (getD r (stateAt s) 0) openState .1 (omega (arith, h .high)))
       where
-        to : T (eqb (getD r (stateAt s) 0) scanned) → Stack r s
-        to x = let e = eqb-iff (getD r (stateAt s) 0) scanned .0 x in record { high = omega arith; gray = λ g. absurd (d g); empty = λ y. absurd (z y) }
+        to : T (eqb (getD r (stateAt s) 0) openState) → Stack r s
+        to x = let e = eqb-iff (getD r (stateAt s) 0) openState .0 x in record { high = omega arith; gray = λ g. absurd (d g); empty = λ y. absurd (z y) }
 
   -- all of them
   pub states : Phase r → ((s : ℕ) → s < stacks → Stack r s) → States r

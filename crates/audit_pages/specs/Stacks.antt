@@ -3,12 +3,12 @@ use Prim.Native.Nat.{ℕ, _<_, _≤_}
 use mathlib.Core.List.{List}
 use mathlib.Core.Path.{_≡_}
 use lib.ListN.{getD}
-use Rattle.model.specs.Memory.{slots, slotAt, stateAt, globalsStateAt, phaseAt, closed, scanned, grayState, sweep, mark, nil}
+use Rattle.model.specs.Memory.{slots, slotAt, stateAt, globalsStateAt, phaseAt, closed, openState, grayState, sweep, mark, nil}
 
 -- "states and phase have legal values, a state of 2 only in phase mark"
 pub record Phase (r : List ℕ) : Type 0 where
   pub legal : getD r phaseAt 0 ≤ sweep
-  pub low : scanned ≤ getD r globalsStateAt 0
+  pub low : openState ≤ getD r globalsStateAt 0
   pub high : getD r globalsStateAt 0 ≤ grayState
   pub gray : getD r globalsStateAt 0 ≡ grayState → getD r phaseAt 0 ≡ mark
 

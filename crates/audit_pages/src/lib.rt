@@ -18,8 +18,8 @@ use units::GLOBALS_STATE;
 use units::GRAY;
 use units::MARK;
 use units::NIL;
+use units::OPEN;
 use units::PHASE;
-use units::SCANNED;
 use units::SLOTS;
 use units::STACKS;
 use units::SWEEP;
@@ -67,7 +67,7 @@ fn stack_ok(roots: &[u64], s: usize) -> bool
     if state == GRAY {
         return roots[PHASE] == MARK;
     }
-    state == SCANNED
+    state == OPEN
 }
 
 // Every stack is as it should be.
@@ -99,7 +99,7 @@ fn phase_ok(roots: &[u64]) -> bool
     if state == GRAY {
         return phase == MARK;
     }
-    state == SCANNED
+    state == OPEN
 }
 
 // The states and the phase are legal, and closed stacks are all nil.

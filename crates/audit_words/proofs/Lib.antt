@@ -1,2 +1,4 @@
 pub mod References
+pub mod Ranges
 pub mod Contents
+pub mod Blocks

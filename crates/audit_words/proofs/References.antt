@@ -13,8 +13,8 @@ use Rattle.model.specs.Spans.{owner, kindEntry, isScan, spanOf}
 use Rattle.model.proofs.Tests.{eqb-iff}
 use Rattle.model.proofs.Bitmaps.{bit-in, bit-inside}
 use Rattle.model.proofs.Spans.{Spans, IsSpan}
-use Rattle.model.proofs.Facts.{Reference, bit, keptAt, unsweptAt}
-use Rattle.audit_words.specs.Contents.{keptFrom}
+use Rattle.model.proofs.Facts.{Reference, bit, keptAt, unsweptAt, swept-all}
+use Rattle.audit_words.specs.Contents.{Swept, keptFrom}
 
 -- the span of a word of the arena; page 0 where there is none
 pub span-below : {p : ℕ} {t : List ℕ} → Spans p t → (w : ℕ) → w < 1024 * p → spanOf t w < p
@@ -31,6 +31,10 @@ kept-is p t b s w from e f l = rw (f, ← e) (go (leb 256 (kindEntry t (spanOf t
     go : (u : Bool) → bitAt b (cond u (1024 * p) 0 + w) ≡ cond u (bit p marked b w) (bit p allocated b w)
     go true = sym (bit-in (1024 * p) marked b w l)
     go false = let z : 0 + w ≡ w = omega arith in rw z (sym (bit-in (1024 * p) allocated b w l))
+
+-- .. which is the allocated one where no span is unswept
+pub kept-told : {p : ℕ} {t : List ℕ} → Spans p t → Swept t → (b : List ℕ) (w : ℕ) → w < 1024 * p → bitAt b w ≡ keptAt p t b w
+kept-told {p} {t} F Q b w l = rw (swept-all F Q (spanOf t w)) (sym (bit-in (1024 * p) allocated b w l))
 
 -- where it stands: past all allocated bits, or not
 pub from-unswept : (p kind : ℕ) → 256 ≤ kind → 1024 * p ≡ keptFrom p kind

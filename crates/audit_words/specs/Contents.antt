@@ -1,13 +1,13 @@
 -- What the audit of references assumes of the page table and the bitmaps, and what it says of the arena's words.
 use Prim.Native.Nat.{ℕ, _+_, _*_, _<_, _≤_}
-use mathlib.Core.Bool.{cond}
+use mathlib.Core.Bool.{Bool, true, cond}
 use mathlib.Core.List.{List}
 use mathlib.Core.Path.{_≡_}
 use lib.Dec.{T}
 use lib.ListN.{length, getD}
-use Rattle.model.specs.Bounded.{_≤?_}
-use Rattle.model.specs.Memory.{maxPages, pageWords, entryNumbers, bitmapWords, firstWord, firstState}
-use Rattle.model.specs.Bitmaps.{pointer}
+use Rattle.model.specs.Bounded.{_==_, _≤?_}
+use Rattle.model.specs.Memory.{maxPages, pageWords, wordBits, entryNumbers, bitmapWords, firstWord, firstState}
+use Rattle.model.specs.Bitmaps.{pointer, bitOf}
 use Rattle.model.specs.Spans.{pageCount, kindEntry, unsweptFlag, elementOf, elementWords, spanOf}
 use Rattle.model.proofs.Spans.{Spans, IsSpan, Element}
 use Rattle.model.proofs.Facts.{Bits, Reference, bit, keptAt}
@@ -25,9 +25,21 @@ pub record Filled (p : ℕ) (a t b : List ℕ) : Type 0 where
   pub arena : length a ≡ pageWords * p
   pub set : Bits p t b
 
+-- .. in which no span is unswept
+abbrev pub Swept : List ℕ → Type 0
+Swept t = (s : ℕ) → IsSpan t s → kindEntry t s < unsweptFlag
+
+-- a test that was told so
+abbrev pub Told : Bool → List ℕ → Type 0
+Told swept t = swept ≡ true → Swept t
+
 -- the bit at which the part starts that says which elements of a span with this kind are kept: marked in an unswept one, else allocated
 abbrev pub keptFrom : ℕ → ℕ → ℕ
 keptFrom p kind = cond (unsweptFlag ≤? kind) (pageWords * p) 0
+
+-- the roots from `from` on and before `to` are references
+abbrev pub Range : ℕ → List ℕ → List ℕ → List ℕ → ℕ → ℕ → Type 0
+Range p t b r from to = (i : ℕ) → from ≤ i → i < to → Reference p t b (getD r i 0)
 
 -- "every root ... is nil or the address of a kept element"
 abbrev pub Roots : ℕ → List ℕ → List ℕ → List ℕ → Type 0
@@ -36,6 +48,14 @@ Roots p t b r = (i : ℕ) → i < firstState → Reference p t b (getD r i 0)
 -- the pointer words among the n words from w on hold references
 abbrev pub Pointers : ℕ → List ℕ → List ℕ → List ℕ → ℕ → ℕ → Type 0
 Pointers p a t b w n = (f : ℕ) → f < n → T (bit p pointer b (w + f)) → Reference p t b (getD a (w + f) 0)
+
+-- the words of block `at`, 64 words of the arena, whose bit is on in `pointers` hold references
+abbrev pub Block : ℕ → List ℕ → List ℕ → List ℕ → ℕ → ℕ → Type 0
+Block p a t b at pointers = (j : ℕ) → j < wordBits → T (bitOf pointers j == 1) → Reference p t b (getD a (wordBits * at + j) 0)
+
+-- the pointer words of blocks `from` to `to` - 1 hold references
+abbrev pub Blocks : ℕ → List ℕ → List ℕ → List ℕ → ℕ → ℕ → Type 0
+Blocks p a t b from to = (w : ℕ) → wordBits * from ≤ w → w < wordBits * to → T (bit p pointer b w) → Reference p t b (getD a w 0)
 
 -- so do those of the kept elements of the span at page s
 abbrev pub SpanContents : ℕ → List ℕ → List ℕ → List ℕ → ℕ → Type 0

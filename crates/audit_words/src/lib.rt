@@ -1,20 +1,28 @@
 // The audit of references: a value is nil or the address of a kept element. Asked of every slot and
-// global, and of the pointer words of every kept element. Kept elements are found by their bits, a
-// bitmap word at a time, and spans without pointers are passed over.
+// global, and of the pointer words of every kept element. In a swept span each pointer bit belongs to
+// a kept element, so the words are found by these bits alone, a bitmap word at a time; in an unswept
+// one they are found by the elements that are marked. Outside the sweep phase no span is unswept, and
+// no test reads the page table.
 ghost use mathlib.Core.Path.{_≡_};
 ghost use mathlib.Core.Logic.{_↔_};
-ghost use Prim.Native.Nat.{_+_, _*_, _<_, _≤_};
+ghost use Prim.Native.Nat.{ℕ, _+_, _*_, _<_, _≤_};
 ghost use lib.Dec.{T};
 ghost use lib.ListN.{length};
-ghost use Rattle.model.specs.Memory.{maxPages, pageWords, entryNumbers, rootWords};
+ghost use Rattle.model.specs.Memory.{maxPages, pageWords, entryNumbers, rootWords, firstGlobal};
 ghost use Rattle.model.specs.Spans.{isScan};
 ghost use Rattle.model.proofs.Spans.{IsSpan};
-ghost use Rattle.model.proofs.Facts.{Reference, keptAt};
-ghost use Rattle.audit_words.specs.Contents.{Spanned, Filled, At, Searched, Roots, Pointers, SpanContents, Contents, keptFrom};
+ghost use Rattle.model.proofs.Facts.{Reference, States, keptAt};
+ghost use Rattle.audit_words.specs.Contents.{Spanned, Filled, Told, At, Searched, Range, Roots, Pointers, Block, Blocks, SpanContents, Contents, keptFrom};
 use units::Address;
+use units::CLOSED;
+use units::FIRST_GLOBAL;
 use units::FIRST_STATE;
+use units::PAGE_BLOCKS;
 use units::PAGE_WORDS;
+use units::SLOTS;
+use units::STACKS;
 use units::UNSWEPT_FLAG;
+use units::WORD_BITS;
 
 // The parts of the bitmaps before the pointer bits.
 const PARTS_BEFORE: usize = 3;
@@ -30,19 +38,22 @@ fn kept_from(p: usize, kind: usize) -> usize
     0
 }
 
-// Word w of the arena starts a kept element.
-fn kept(p: usize, table: &[u32], bits: &[u64], w: usize) -> bool
-    requires { ⌜ Spanned p (now table) (now bits) × (w < pageWords * p) ⌝ }
+// Word w of the arena starts a kept element. `swept` says that no span is unswept.
+fn kept(p: usize, table: &[u32], bits: &[u64], swept: bool, w: usize) -> bool
+    requires { ⌜ Spanned p (now table) (now bits) × Told swept (now table) × (w < pageWords * p) ⌝ }
     ensures { λ r. ⌜ r ≡ keptAt p (now (table .entry)) (now (bits .entry)) w ⌝ }
 {
+    if swept {
+        return bitmap::test(bits, w);
+    }
     let s = pages::span_of_word(table, w);
     let from = kept_from(p, pages::kind_entry(table, s));
     bitmap::test(bits, from + w)
 }
 
 // The value is nil or the address of a kept element.
-pub fn is_reference(p: usize, table: &[u32], bits: &[u64], v: u64) -> bool
-    requires { ⌜ Spanned p (now table) (now bits) ⌝ }
+pub fn is_reference(p: usize, table: &[u32], bits: &[u64], swept: bool, v: u64) -> bool
+    requires { ⌜ Spanned p (now table) (now bits) × Told swept (now table) ⌝ }
     ensures { λ r. ⌜ (T r ↔ Reference p (now (table .entry)) (now (bits .entry)) v) ⌝ }
 {
     if Address(v).is_nil() {
@@ -55,19 +66,110 @@ pub fn is_reference(p: usize, table: &[u32], bits: &[u64], v: u64) -> bool
     if PAGE_WORDS * p <= w.0 {
         return false;
     }
-    kept(p, table, bits, w.0)
+    kept(p, table, bits, swept, w.0)
+}
+
+// The roots from word `from` on and before word `to` are references.
+fn range_ok(
+    p: usize,
+    table: &[u32],
+    bits: &[u64],
+    roots: &[u64],
+    swept: bool,
+    from: usize,
+    to: usize,
+) -> bool
+    requires { ⌜ Spanned p (now table) (now bits) × Told swept (now table) × (length (now roots) ≡ rootWords) × (to ≤ rootWords) ⌝ }
+    ensures { λ r. ⌜ (T r ↔ Range p (now (table .entry)) (now (bits .entry)) (now (roots .entry)) from to) ⌝ }
+{
+    let mut i = from;
+    while i < to {
+        let value = roots[i];
+        i += 1;
+        if !is_reference(p, table, bits, swept, value) {
+            return false;
+        }
+    }
+    true
+}
+
+// So are the slots of every stack. Those of a closed one are nil.
+fn slots_ok(p: usize, table: &[u32], bits: &[u64], roots: &[u64], swept: bool) -> bool
+    requires { ⌜ Spanned p (now table) (now bits) × Told swept (now table) × (length (now roots) ≡ rootWords) × States (now roots) ⌝ }
+    ensures { λ r. ⌜ (T r ↔ Range p (now (table .entry)) (now (bits .entry)) (now (roots .entry)) 0 firstGlobal) ⌝ }
+{
+    let mut s = 0;
+    while s < STACKS {
+        let first = SLOTS * s;
+        let state = roots[FIRST_STATE + s];
+        s += 1;
+        if state != CLOSED {
+            if !range_ok(p, table, bits, roots, swept, first, first + SLOTS) {
+                return false;
+            }
+        }
+    }
+    true
 }
 
 // So is every slot and every global.
-pub fn roots_ok(p: usize, table: &[u32], bits: &[u64], roots: &[u64]) -> bool
-    requires { ⌜ Spanned p (now table) (now bits) × (length (now roots) ≡ rootWords) ⌝ }
+pub fn roots_ok(p: usize, table: &[u32], bits: &[u64], roots: &[u64], swept: bool) -> bool
+    requires { ⌜ Spanned p (now table) (now bits) × Told swept (now table) × (length (now roots) ≡ rootWords) × States (now roots) ⌝ }
     ensures { λ r. ⌜ (T r ↔ Roots p (now (table .entry)) (now (bits .entry)) (now (roots .entry))) ⌝ }
 {
-    let mut i = 0;
-    while i < FIRST_STATE {
-        let value = roots[i];
-        i += 1;
-        if !is_reference(p, table, bits, value) {
+    if !slots_ok(p, table, bits, roots, swept) {
+        return false;
+    }
+    range_ok(p, table, bits, roots, swept, FIRST_GLOBAL, FIRST_STATE)
+}
+
+// The words of block `at` whose bit is on in `pointers` hold references. They are taken by the lowest
+// bit, which is then turned off.
+fn block_ok(
+    p: usize,
+    arena: &[u64],
+    table: &[u32],
+    bits: &[u64],
+    swept: bool,
+    at: usize,
+    pointers: u64,
+) -> bool
+    requires { ⌜ Filled p (now arena) (now table) (now bits) × Told swept (now table) × (at < 16 * p) ⌝ }
+    ensures { λ r. ⌜ (T r ↔ Block p (now (arena .entry)) (now (table .entry)) (now (bits .entry)) at pointers) ⌝ }
+{
+    let first = WORD_BITS * at;
+    let mut left = pointers;
+    while left != 0 {
+        let j = u64::trailing_zeros(left) as usize;
+        let value = arena[first + j];
+        left = left & !(1u64 << j);
+        if !is_reference(p, table, bits, swept, value) {
+            return false;
+        }
+    }
+    true
+}
+
+// So do the words of blocks `from` to `to` - 1 that have a pointer bit.
+fn blocks_ok(
+    p: usize,
+    arena: &[u64],
+    table: &[u32],
+    bits: &[u64],
+    swept: bool,
+    from: usize,
+    to: usize,
+) -> bool
+    requires { ⌜ Filled p (now arena) (now table) (now bits) × Told swept (now table) × (from ≤ to) × (to ≤ 16 * p) ⌝ }
+    ensures { λ r. ⌜ (T r ↔ Blocks p (now (arena .entry)) (now (table .entry)) (now (bits .entry)) from to) ⌝ }
+{
+    let part = PARTS_BEFORE * (PAGE_BLOCKS * p);
+    let mut k = from;
+    while k < to {
+        let at = k;
+        let pointers = bits[part + at];
+        k += 1;
+        if !block_ok(p, arena, table, bits, swept, at, pointers) {
             return false;
         }
     }
@@ -89,7 +191,7 @@ fn pointers_ok(p: usize, arena: &[u64], table: &[u32], bits: &[u64], w: usize, n
         if !bitmap::test(bits, at) {
             return true;
         }
-        if !is_reference(p, table, bits, value) {
+        if !is_reference(p, table, bits, false, value) {
             return false;
         }
     }
@@ -131,6 +233,18 @@ fn span_ok(p: usize, arena: &[u64], table: &[u32], bits: &[u64], s: usize) -> bo
 {
     let kind = pages::kind_entry(table, s);
     let count = pages::page_count(table, s);
+    if kind < UNSWEPT_FLAG as usize {
+        let first = PAGE_BLOCKS * s;
+        return blocks_ok(
+            p,
+            arena,
+            table,
+            bits,
+            false,
+            first,
+            first + PAGE_BLOCKS * count,
+        );
+    }
     let n = classes::element_words(kind % UNSWEPT_FLAG as usize / 2, count);
     let from = kept_from(p, kind);
     let end = from + PAGE_WORDS * (s + count);
@@ -148,8 +262,8 @@ fn scans(table: &[u32], s: usize) -> bool
     pages::kind_entry(table, s) % 2 == 0
 }
 
-// Every pointer word of a kept element holds a reference.
-pub fn contents_ok(p: usize, arena: &[u64], table: &[u32], bits: &[u64]) -> bool
+// So do the pointer words of the kept elements of all spans.
+fn spans_ok(p: usize, arena: &[u64], table: &[u32], bits: &[u64]) -> bool
     requires { ⌜ Filled p (now arena) (now table) (now bits) ⌝ }
     ensures { λ r. ⌜ (T r ↔ Contents p (now (arena .entry)) (now (table .entry)) (now (bits .entry))) ⌝ }
 {
@@ -164,4 +278,15 @@ pub fn contents_ok(p: usize, arena: &[u64], table: &[u32], bits: &[u64]) -> bool
         }
     }
     true
+}
+
+// Every pointer word of a kept element holds a reference.
+pub fn contents_ok(p: usize, arena: &[u64], table: &[u32], bits: &[u64], swept: bool) -> bool
+    requires { ⌜ Filled p (now arena) (now table) (now bits) × Told swept (now table) ⌝ }
+    ensures { λ r. ⌜ (T r ↔ Contents p (now (arena .entry)) (now (table .entry)) (now (bits .entry))) ⌝ }
+{
+    if swept {
+        return blocks_ok(p, arena, table, bits, true, 0, PAGE_BLOCKS * p);
+    }
+    spans_ok(p, arena, table, bits)
 }

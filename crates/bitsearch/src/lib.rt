@@ -9,12 +9,9 @@ ghost use Rattle.model.specs.Bounded.{firstBelow};
 ghost use Rattle.model.specs.Memory.{pageWords, wordBits, maxPages, bitmapWords};
 ghost use Rattle.model.specs.Bitmaps.{bitAt};
 ghost use Rattle.bitsearch.specs.Freed.{isFreed};
-
-// The words of a page in one part of the bitmaps.
-const PAGE_BITS: usize = 16;
-
-// A word with every bit set.
-const ALL: u64 = 0xFFFF_FFFF_FFFF_FFFF;
+use units::ALL_BITS;
+use units::PAGE_BLOCKS;
+use units::WORD_BITS;
 
 // The lowest element start from word `from` on and below `to`, the end of a span, that is allocated
 // and not marked, or `to`.
@@ -22,18 +19,18 @@ pub fn next_freed(p: usize, bits: &[u64], from: usize, to: usize) -> usize
     requires { ⌜ (p ≤ maxPages) × (length (now bits) ≡ bitmapWords * p) × (from ≤ to) × (to ≤ pageWords * p) × (to % wordBits ≡ 0) ⌝ }
     ensures { λ r. ⌜ r ≡ from + firstBelow (to - from) (λ k. isFreed p (now (bits .entry)) (from + k)) ⌝ }
 {
-    let marks = PAGE_BITS * p;
-    let end = to / units::WORD_BITS;
-    let mut at = from / units::WORD_BITS;
+    let marks = PAGE_BLOCKS * p;
+    let end = to / WORD_BITS;
+    let mut at = from / WORD_BITS;
     // the bits of the word from `from` on: all of them, in any word but the first
-    let mut mask = ALL << (from % units::WORD_BITS);
+    let mut mask = ALL_BITS << (from % WORD_BITS);
     while at < end {
         let found = u64::trailing_zeros(bits[at] & !bits[marks + at] & mask);
         if found < 64 {
-            return at * units::WORD_BITS + found as usize;
+            return at * WORD_BITS + found as usize;
         }
         at += 1;
-        mask = ALL;
+        mask = ALL_BITS;
     }
     to
 }
@@ -43,20 +40,20 @@ pub fn first_clear(ws: &[u64], from: usize, to: usize) -> usize
     requires { ⌜ (from ≤ to) × (to ≤ 64 * length (now ws)) × (to ≤ bitmapWords * (wordBits * maxPages)) ⌝ }
     ensures { λ r. ⌜ r ≡ from + firstBelow (to - from) (λ k. not (bitAt (now (ws .entry)) (from + k))) ⌝ }
 {
-    let end = (to + (units::WORD_BITS - 1)) / units::WORD_BITS;
-    let mut at = from / units::WORD_BITS;
-    let mut mask = ALL << (from % units::WORD_BITS);
+    let end = (to + (WORD_BITS - 1)) / WORD_BITS;
+    let mut at = from / WORD_BITS;
+    let mut mask = ALL_BITS << (from % WORD_BITS);
     while at < end {
         let found = u64::trailing_zeros(!ws[at] & mask);
         if found < 64 {
-            let bit = at * units::WORD_BITS + found as usize;
+            let bit = at * WORD_BITS + found as usize;
             if bit < to {
                 return bit;
             }
             return to;
         }
         at += 1;
-        mask = ALL;
+        mask = ALL_BITS;
     }
     to
 }

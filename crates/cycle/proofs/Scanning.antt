@@ -8,7 +8,7 @@ use lib.ListN.{getD, set}
 use borrow.Author.Tests.{ne-eqb, eq-eqb}
 use Rattle.model.specs.Memory.{Heap, lent}
 use Rattle.model.specs.Answers.{Meets, _given_, _orElse_}
-use Rattle.model.specs.Checks.{phaseIsNot, notOpen}
+use Rattle.model.specs.Checks.{phaseRefusal, openRefusal}
 use Rattle.model.specs.Cycle.{scanStack, scanGlobals}
 use Rattle.model.specs.declared.Answer.{Answer}
 use Rattle.model.specs.declared.Answer.the-variants.{Refused, Value}
@@ -52,7 +52,7 @@ module _ (p : ℕ) (t b r : List ℕ) (a : List ℕ) where
   unfolding scanGlobals _given_
   globals-scanned e S = rw e (S a)
 
-  module _ (s : ℕ) {n : ℕ} (m : n ≡ (phaseIsNot (lent p a t b r) 1 orElse notOpen (lent p a t b r) s)) where
+  module _ (s : ℕ) {n : ℕ} (m : n ≡ (phaseRefusal (lent p a t b r) 1 orElse openRefusal (lent p a t b r) s)) where
     pub stack-refused : n ≢ 0 → Meets (scanStack (lent p a t b r) s) (Refused n) a t b r
     unfolding scanStack
     stack-refused d = refused _ (lent p a t b r) _ _ m d
@@ -62,5 +62,5 @@ module _ (p : ℕ) (t b r : List ℕ) (a : List ℕ) where
     stack-scanned e S = rw (sym m ∙ e) (S a)
 
 -- what a scan that is not refused has passed
-pub stack-below : (h : Heap) (s : ℕ) {n : ℕ} → n ≡ (phaseIsNot h 1 orElse notOpen h s) → n ≡ 0 → s < 16
-stack-below h s m e = open-passed h s (orElse-iff (phaseIsNot h 1) (notOpen h s) .0 (sym m ∙ e) .1) .below
+pub stack-below : (h : Heap) (s : ℕ) {n : ℕ} → n ≡ (phaseRefusal h 1 orElse openRefusal h s) → n ≡ 0 → s < 16
+stack-below h s m e = open-passed h s (orElse-iff (phaseRefusal h 1) (openRefusal h s) .0 (sym m ∙ e) .1) .below

@@ -12,7 +12,7 @@ ghost use Rattle.model.specs.Bounded.{someBelow};
 ghost use Rattle.model.specs.Memory.{lent, rootWords, putWords, firstState, stacks, closed, grayState, mark};
 ghost use Rattle.model.specs.Answers.{Meets, _orElse_};
 ghost use Rattle.model.specs.Spans.{pointerCount};
-ghost use Rattle.model.specs.Checks.{phaseIsNot, notOpen};
+ghost use Rattle.model.specs.Checks.{phaseRefusal, openRefusal};
 ghost use Rattle.model.specs.Cycle.{start, scanStack, scanGlobals, firstGray, scanRecord, markStep, finishRefusal, finish};
 ghost use Rattle.model.proofs.Facts.{Audited};
 ghost use Rattle.stacks.specs.OnRoots.{Tests, Does as OnRoots};
@@ -74,14 +74,14 @@ fn scan(
         return Answer::Value(0);
     }
     let count = shading::shade_slice(p, table, bits, roots, from, units::SLOTS);
-    roots[at] = units::SCANNED;
+    roots[at] = units::OPEN;
     Answer::Value(count)
 }
 
 // The refusal of a scan of stack s.
 fn scan_refusal(roots: &[u64], s: u64) -> u64
     requires { ⌜ length (now roots) ≡ rootWords ⌝ }
-    ensures { λ r. ⌜ Tests (λ h. phaseIsNot h mark orElse notOpen h s) (now (roots .entry)) r ⌝ }
+    ensures { λ r. ⌜ Tests (λ h. phaseRefusal h mark orElse openRefusal h s) (now (roots .entry)) r ⌝ }
 {
     if roots[units::PHASE] != units::MARK {
         return units::WRONG_PHASE;

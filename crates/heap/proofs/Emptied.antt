@@ -6,9 +6,9 @@ use mathlib.Core.Path.{_≡_, refl}
 use native.Mathlib.Omega.{arith}
 use lib.ListN.{length, replicate, set}
 use lib.Dec.{T}
-use Rattle.model.specs.Memory.{Heap, goodBuffers, globalsStateAt, scanned}
+use Rattle.model.specs.Memory.{Heap, goodBuffers, globalsStateAt, openState}
 use Rattle.model.specs.Answers.{Meets, _given_}
-use Rattle.model.specs.Checks.{badBuffersOf}
+use Rattle.model.specs.Checks.{buffersRefusal}
 use Rattle.model.specs.Records.{fresh, setup}
 use Rattle.model.specs.declared.Answer.the-variants.{Refused, Done}
 use Rattle.model.proofs.Tests.{of-true, is-true}
@@ -18,15 +18,15 @@ use Rattle.model.proofs.Outcomes.{refused, accepted}
 
 pub setup-refused : (h : Heap) (b : Bool) → (T b ↔ Sized h) → not b ≡ true → Meets (setup h) (Refused 1) (h .arena) (h .table) (h .bits) (h .roots)
 unfolding setup
-setup-refused h b f e = refused (badBuffersOf h) h Done (fresh h) (go (goodBuffers h) refl b f e) (omega arith)
+setup-refused h b f e = refused (buffersRefusal h) h Done (fresh h) (go (goodBuffers h) refl b f e) (omega arith)
   where
     go : (g : Bool) → goodBuffers h ≡ g → (b : Bool) → (T b ↔ Sized h) → not b ≡ true → 1 ≡ (1 given not g)
     go true p true f e = absurd (mathlib.Core.Bool.true≢false (mathlib.Core.Path.sym e))
     go true p false f e = absurd (f .1 (sized h (is-true (goodBuffers h) p)))
     go false p b f e = unfold _given_ in refl
 
-pub setup-done : (h : Heap) → Sized h → Meets (setup h) Done (h .arena) (replicate (length (h .table)) 0) (replicate (length (h .bits)) 0) (set (replicate (length (h .roots)) 0) globalsStateAt scanned)
+pub setup-done : (h : Heap) → Sized h → Meets (setup h) Done (h .arena) (replicate (length (h .table)) 0) (replicate (length (h .bits)) 0) (set (replicate (length (h .roots)) 0) globalsStateAt openState)
 unfolding setup fresh
 setup-done h Z =
     let g = of-true (goodBuffers h) (sized-good h Z) in
-    rw (Z .table, Z .bits, Z .roots) (accepted (badBuffersOf h) h Done (fresh h) (unfold _given_ in rw g))
+    rw (Z .table, Z .bits, Z .roots) (accepted (buffersRefusal h) h Done (fresh h) (unfold _given_ in rw g))

@@ -26,7 +26,7 @@ pub fn setup(
     words::zero_numbers(table);
     words::zero(bits);
     words::zero(roots);
-    roots[units::GLOBALS_STATE] = units::SCANNED;
+    roots[units::GLOBALS_STATE] = units::OPEN;
     Answer::Done
 }
 

@@ -17,9 +17,9 @@ use Rattle.marking.specs.Agreement.{Agrees}
 use Rattle.marking.specs.Refinement
 use Rattle.model.specs.Memory.{Heap, choose, withBits, setRoot, slot, global, state, globalsState, phase, word, words, addressOf, stateAt}
 use Rattle.model.specs.Bitmaps.{allocated, gray, is}
-use Rattle.model.specs.Spans.{owner, pageCount, kindEntry, isFirst, isUnswept, spanOf, kept}
+use Rattle.model.specs.Spans.{owner, pageCount, kindEntry, startsSpan, isUnswept, spanOf, kept}
 use Rattle.model.specs.Answers.{_orElse_}
-use Rattle.model.specs.Checks.{phaseIsNot, notOpen}
+use Rattle.model.specs.Checks.{phaseRefusal, openRefusal}
 use Rattle.model.specs.Shading.{shadeCount}
 use Rattle.model.specs.Cycle.{start, scanStack, scanGlobals, markStep, finish, sweepStep, firstGray, firstUnswept, scan, scanRecord, finishRefusal, freedCount, nothingLeft}
 use Rattle.model.specs.Calls.{audited, Start, ScanGlobals, MarkStep, Finish, SweepStep, ScanStack}
@@ -79,12 +79,12 @@ first-gray h l = is-true _ (first-props (words h) (is gray h) .holds l)
 
 pub first-unswept : (P : ℕ) (t : List ℕ) → firstUnswept P t < P → IsSpan t (firstUnswept P t) × (256 ≤ kindEntry t (firstUnswept P t))
 unfolding firstUnswept
-first-unswept P t l = simp tests at (is-true (isFirst t (firstUnswept P t) && isUnswept t (firstUnswept P t)) (first-props P (λ s. isFirst t s && isUnswept t s) .holds l))
+first-unswept P t l = simp tests at (is-true (startsSpan t (firstUnswept P t) && isUnswept t (firstUnswept P t)) (first-props P (λ s. startsSpan t s && isUnswept t s) .holds l))
 
 none-unswept : {h : Heap} → Audited h → h .pages ≤ firstUnswept (h .pages) (h .table) → (s : ℕ) → IsSpan (h .table) s → kindEntry (h .table) s < 256
 unfolding firstUnswept
 none-unswept {h} F l s i =
-    let f = first-props (h .pages) (λ s. isFirst (h .table) s && isUnswept (h .table) s) in
+    let f = first-props (h .pages) (λ s. startsSpan (h .table) s && isUnswept (h .table) s) in
     let b = f .before s (omega (arith, F .spans .inside s i, fits (F .spans) s i)) in
     leb-false 256 (kindEntry (h .table) s) (rw (eq-eqb (owner (h .table) s) (s + 1) i) at b)
 
@@ -95,7 +95,7 @@ see-swept {h} F n w = rw (swept-all (F .spans) n (spanOf (h .table) w)) (and-fal
 -- the calls of a cycle, on a heap that passes the audit
 module _ {h : Heap} (F : Audited h) where
   pub start-happens : let o = start h in Happens h Start (o .answer) (o .heap)
-  start-happens = rw (start-is h) (by-refusal F Start (phaseIsNot h 0) (given-small 2 _ (omega arith)) Done (Rattle.model.specs.Memory.withRoots (started h) h) refl (λ e.
+  start-happens = rw (start-is h) (by-refusal F Start (phaseRefusal h 0) (given-small 2 _ (omega arith)) Done (Rattle.model.specs.Memory.withRoots (started h) h) refl (λ e.
       let x = simp passes at e in record {
         step = rw (start-view F) (Trace.Step.start (audit-view F) (see-phase h x));
         audited = started-kept F x;
@@ -106,9 +106,9 @@ module _ {h : Heap} (F : Audited h) where
   -- a scan that finds the state scanned leaves all as it is
   pub scan-stack-happens : (s : ℕ) → let o = scanStack h s in Happens h (ScanStack s) (o .answer) (o .heap)
   scan-stack-happens s = rw (scan-stack-is h s) (
-      by-refusal F (ScanStack s) (phaseIsNot h 1 orElse notOpen h s) (orElse-small _ _ (given-small 2 _ (omega arith)) (given-small 3 _ (omega arith)))
+      by-refusal F (ScanStack s) (phaseRefusal h 1 orElse openRefusal h s) (orElse-small _ _ (given-small 2 _ (omega arith)) (given-small 3 _ (omega arith)))
       (Value (cond (eqb (state h s) 2) count 0)) (choose (eqb (state h s) 2) (scan 32 (slot h s) (stateAt s) h) h) refl
-      (λ e. let x = orElse-iff (phaseIsNot h 1) (notOpen h s) .0 e in go (simp passes at (x .0)) (open-passed h s (x .1)) (eqb (state h s) 2) refl))
+      (λ e. let x = orElse-iff (phaseRefusal h 1) (openRefusal h s) .0 e in go (simp passes at (x .0)) (open-passed h s (x .1)) (eqb (state h s) 2) refl))
     where
       count : ℕ
       count = shadeCount (h .pages) (h .table) 32 (slot h s) (h .bits)
@@ -128,7 +128,7 @@ module _ {h : Heap} (F : Audited h) where
   pub scan-globals-happens : let o = scanGlobals h in Happens h ScanGlobals (o .answer) (o .heap)
   unfolding scanGlobals
   scan-globals-happens =
-      by-refusal F ScanGlobals (phaseIsNot h 1) (given-small 2 _ (omega arith)) (Value (cond (eqb (globalsState h) 2) count 0))
+      by-refusal F ScanGlobals (phaseRefusal h 1) (given-small 2 _ (omega arith)) (Value (cond (eqb (globalsState h) 2) count 0))
       (choose (eqb (globalsState h) 2) (scan 32 (global h) 560 h) h) refl
       (λ e. go (simp passes at e) (eqb (globalsState h) 2) refl)
     where
@@ -148,7 +148,7 @@ module _ {h : Heap} (F : Audited h) where
   pub mark-step-happens : let o = markStep h in Happens h MarkStep (o .answer) (o .heap)
   unfolding markStep
   mark-step-happens =
-      by-refusal F MarkStep (phaseIsNot h 1) (given-small 2 _ (omega arith)) (Value (cond (ltb (firstGray h) (words h)) (addressOf (firstGray h)) 0))
+      by-refusal F MarkStep (phaseRefusal h 1) (given-small 2 _ (omega arith)) (Value (cond (ltb (firstGray h) (words h)) (addressOf (firstGray h)) 0))
       (choose (ltb (firstGray h) (words h)) (withBits (scanRecord (firstGray h) h) h) h) refl
       (λ e. go (simp passes at e) (ltb (firstGray h) (words h)) refl)
     where
@@ -172,7 +172,7 @@ module _ {h : Heap} (F : Audited h) where
   pub sweep-step-happens : let o = sweepStep h in Happens h SweepStep (o .answer) (o .heap)
   unfolding sweepStep
   sweep-step-happens =
-      by-refusal F SweepStep (phaseIsNot h 2) (given-small 2 _ (omega arith))
+      by-refusal F SweepStep (phaseRefusal h 2) (given-small 2 _ (omega arith))
       (cond (ltb s (h .pages)) (Swept (s + 1) (freedCount h s) (cond (nothingLeft h s) (pageCount (h .table) s) 0)) (Swept 0 0 0))
       (choose (ltb s (h .pages)) (swept s h) (setRoot 561 0 h)) refl
       (λ e. go (simp passes at e) (ltb s (h .pages)) refl)

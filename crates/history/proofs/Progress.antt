@@ -17,8 +17,8 @@ use Rattle.marking.specs.Freed.{Reached, reached-step}
 use Rattle.model.specs.Bounded.{countBelow, someBelow}
 use Rattle.model.specs.Memory.{Heap, phase, state, globalsState, words}
 use Rattle.model.specs.Answers.{_given_, _orElse_}
-use Rattle.model.specs.Spans.{kindEntry, isFirst, isUnswept}
-use Rattle.model.specs.Checks.{phaseIsNot, notOpen}
+use Rattle.model.specs.Spans.{kindEntry, startsSpan, isUnswept}
+use Rattle.model.specs.Checks.{phaseRefusal, openRefusal}
 use Rattle.model.specs.Cycle.{sweptTable, start, scanStack, scanGlobals, markStep, finish, sweepStep, firstGray, firstUnswept, finishRefusal}
 use Rattle.model.specs.Calls.{Start, ScanGlobals, MarkStep, Finish, SweepStep, ScanStack, run, Request, step, after, audited}
 use Rattle.model.proofs.Tests.{of-true, is-true}
@@ -51,7 +51,7 @@ scan-event : {h : Heap} → Audited h → phase h ≡ 1 → (s : ℕ) → s < 16
 unfolding scanStack
 scan-event {h} F one s l e = rw (entry-passes h F, passed, eq-eqb (state h s) 2 e) (refl, root-other F (544 + s) 1 (omega arith) 561 (omega arith) ∙ one)
   where
-    passed : (phaseIsNot h 1 orElse notOpen h s) ≡ 0
+    passed : (phaseRefusal h 1 orElse openRefusal h s) ≡ 0
     passed = simp passes (one, (l, λ z. absurd (omega arith)))
 
 globals-event : {h : Heap} → Audited h → phase h ≡ 1 → globalsState h ≡ 2 →
@@ -59,14 +59,14 @@ globals-event : {h : Heap} → Audited h → phase h ≡ 1 → globalsState h �
 unfolding scanGlobals
 globals-event {h} F one e = rw (entry-passes h F, passed, eq-eqb (globalsState h) 2 e) (refl, root-other F 560 1 (omega arith) 561 (omega arith) ∙ one)
   where
-    passed : phaseIsNot h 1 ≡ 0
+    passed : phaseRefusal h 1 ≡ 0
     passed = simp passes one
 
 mark-event : {h : Heap} → Audited h → phase h ≡ 1 → firstGray h < words h → (event MarkStep (run h MarkStep .answer) ≡ Event.markStep) × (phase (run h MarkStep .heap) ≡ 1)
 unfolding markStep
 mark-event {h} F one l = rw (entry-passes h F, passed, lt-ltb (firstGray h) (words h) l, ne-eqb (8192 + 8 * firstGray h) 0 (omega arith)) (refl, one)
   where
-    passed : phaseIsNot h 1 ≡ 0
+    passed : phaseRefusal h 1 ≡ 0
     passed = simp passes one
 
 -- what is gray where finish is refused
@@ -196,7 +196,7 @@ count-fewer (suc n) p q s l a b f = go (eqb s n) refl (λ k. count-fewer n p q s
 
 -- how many spans are unswept
 abbrev unsweptSpans : Heap → ℕ
-unsweptSpans h = countBelow (h .pages) (λ s. isFirst (h .table) s && isUnswept (h .table) s)
+unsweptSpans h = countBelow (h .pages) (λ s. startsSpan (h .table) s && isUnswept (h .table) s)
 
 -- a sweep step that finds an unswept span, and one that finds none
 sweep-event : {h : Heap} → Audited h → phase h ≡ 2 → firstUnswept (h .pages) (h .table) < h .pages →
@@ -210,22 +210,22 @@ sweep-event {h} F two l = rw (
   ne-eqb (firstUnswept (h .pages) (h .table) + 1) 0 (omega arith),
 ) (refl, two, refl)
   where
-    passed : phaseIsNot h 2 ≡ 0
+    passed : phaseRefusal h 2 ≡ 0
     passed = simp passes two
 
 end-event : {h : Heap} → Audited h → phase h ≡ 2 → h .pages ≤ firstUnswept (h .pages) (h .table) → event SweepStep (run h SweepStep .answer) ≡ Event.endCycle
 unfolding sweepStep
 end-event {h} F two l = rw (entry-passes h F, passed, le-ltb (firstUnswept (h .pages) (h .table)) (h .pages) l)
   where
-    passed : phaseIsNot h 2 ≡ 0
+    passed : phaseRefusal h 2 ≡ 0
     passed = simp passes two
 
 -- one unswept span less
 fewer : {h : Heap} → Audited h → (s : ℕ) → s < h .pages → IsSpan (h .table) s → 256 ≤ kindEntry (h .table) s →
-    countBelow (h .pages) (λ x. isFirst (sweptTable h s) x && isUnswept (sweptTable h s) x) < unsweptSpans h
+    countBelow (h .pages) (λ x. startsSpan (sweptTable h s) x && isUnswept (sweptTable h s) x) < unsweptSpans h
 fewer {h} F s l i k =
-    count-fewer (h .pages) (λ x. isFirst (sweptTable h s) x && isUnswept (sweptTable h s) x) (λ x. isFirst (h .table) x && isUnswept (h .table) x) s l
-    (simp tests (i, k)) (no (isFirst (sweptTable h s) s && isUnswept (sweptTable h s) s) (λ t. let y = simp tests at t in unswept-less F s i s (y .0) (y .1) .2 refl))
+    count-fewer (h .pages) (λ x. startsSpan (sweptTable h s) x && isUnswept (sweptTable h s) x) (λ x. startsSpan (h .table) x && isUnswept (h .table) x) s l
+    (simp tests (i, k)) (no (startsSpan (sweptTable h s) s && isUnswept (sweptTable h s) s) (λ t. let y = simp tests at t in unswept-less F s i s (y .0) (y .1) .2 refl))
     (λ x _ t. let y = simp tests at t in let z = unswept-less F s i x (y .0) (y .1) in simp tests (z .0, z .1))
   where
     no : (b : Bool) → (T b → ⊥) → T (not b)

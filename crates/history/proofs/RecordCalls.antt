@@ -15,7 +15,7 @@ use Rattle.model.specs.Memory.{Heap, withArena, withBits, withTable, setRoot, s
 use Rattle.model.specs.Bitmaps.{allocated, pointer, is}
 use Rattle.model.specs.Spans.{kept}
 use Rattle.model.specs.Classes.{kindOf, pagesFor}
-use Rattle.model.specs.Checks.{recordAt, notOpen}
+use Rattle.model.specs.Checks.{recordAt, openRefusal}
 use Rattle.model.specs.Allocate.{allocate, newBits, newTable, newWord, allocateRefusal}
 use Rattle.model.specs.Records.{openStack, closeStack, copy, clear, load, store, put, get, loadGlobal, storeGlobal, emptied}
 use Rattle.model.specs.Calls.{audited, Open, Close, Clear, Copy, Get, LoadGlobal, StoreGlobal, Allocate, Load, Store, Put}
@@ -54,7 +54,7 @@ module _ {h : Heap} (F : Audited h) where
 
   pub open-happens : (s : ℕ) → let o = openStack h s in Happens h (Open s) (o .answer) (o .heap)
   unfolding openStack emptied
-  open-happens s = by-refusal F (Open s) (Rattle.model.specs.Checks.notClosed h s) (given-small 3 _ (omega arith)) Done (emptied h s 1) refl
+  open-happens s = by-refusal F (Open s) (Rattle.model.specs.Checks.closedRefusal h s) (given-small 3 _ (omega arith)) Done (emptied h s 1) refl
       (λ e. let x = simp passes at e in record {
         step = rw (emptied-view F s 1 true (x .0) refl refl) (Trace.Step.openStack s (audit-view F));
         audited = emptied-kept F s 1 (x .0) (omega arith);
@@ -64,7 +64,7 @@ module _ {h : Heap} (F : Audited h) where
 
   pub close-happens : (s : ℕ) → let o = closeStack h s in Happens h (Close s) (o .answer) (o .heap)
   unfolding closeStack emptied
-  close-happens s = by-refusal F (Close s) (notOpen h s) (given-small 3 _ (omega arith)) Done (emptied h s 0) refl (λ e. let x = open-passed h s e in record {
+  close-happens s = by-refusal F (Close s) (openRefusal h s) (given-small 3 _ (omega arith)) Done (emptied h s 0) refl (λ e. let x = open-passed h s e in record {
     step = rw (emptied-view F s 0 false (x .below) refl refl) (Trace.Step.closeStack s (audit-view F));
     audited = emptied-kept F s 0 (x .below) (omega arith);
     said = tt;

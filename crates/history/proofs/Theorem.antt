@@ -26,7 +26,7 @@ use Rattle.model.specs.Bounded.{countBelow}
 use Rattle.model.specs.Memory.{Heap, words, goodBuffers, wordOf, addressOf}
 use Rattle.model.specs.Answers.{_given_}
 use Rattle.model.specs.Bitmaps.{is, allocated}
-use Rattle.model.specs.Spans.{owner, isFirst, isUnswept}
+use Rattle.model.specs.Spans.{owner, startsSpan, isUnswept}
 use Rattle.model.specs.Records.{setup, fresh}
 use Rattle.model.specs.Calls.{Call, Setup, Audit, Start, ScanGlobals, MarkStep, Finish, SweepStep, Open, Close, ScanStack, Clear, Copy, Get, LoadGlobal, StoreGlobal, Allocate, Load, Store, Put, Request, step, after}
 use Rattle.model.specs.declared.Answer.{Answer}
@@ -240,7 +240,7 @@ module _ (P : ℕ) (h : Heap) (F : Audited (onPages P h)) (Fr : Fresh (view (onP
         (omega (arith, Advance.toMark-bound 16 (ledger h rs) (view (onPages P (after h rs))), records-counted (onPages P (after h rs)) (reached-at rs))) in
         (x .calls, x .collects, x .short, x .finish);
     ends = λ e. let x = ending P P (after h rs) (run-of rs .audited) (reached-at rs) e
-        (count-le P (λ s. isFirst (after h rs .table) s && isUnswept (after h rs .table) s)) in (x .steps, x .few, x .end);
+        (count-le P (λ s. startsSpan (after h rs .table) s && isUnswept (after h rs .table) s)) in (x .steps, x .few, x .end);
   }
     where
       work-at : (before : List Request) (first : Request) (p : eventOn (after h before) first ≡ Event.start) (between : List Request) →

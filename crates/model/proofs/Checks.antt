@@ -12,7 +12,7 @@ use Rattle.model.specs.Memory.{Heap, goodBuffers, words, state, phase, s
 use Rattle.model.specs.Answers.{_given_, _orElse_}
 use Rattle.model.specs.Bitmaps.{is, gray}
 use Rattle.model.specs.Spans.{elementWords, spanOf, pointerCount}
-use Rattle.model.specs.Checks.{slotRefusal, slotsRefusal, globalRefusal, pointerRefusal, numberRefusal, noSize, recordAt, notOpen, notClosed, phaseIsNot}
+use Rattle.model.specs.Checks.{slotRefusal, slotsRefusal, globalRefusal, pointerRefusal, numberRefusal, sizeRefusal, recordAt, openRefusal, closedRefusal, phaseRefusal}
 use Rattle.model.specs.Audit.{audit}
 use Rattle.model.specs.Allocate.{roomFor, roomRefusal, allocateRefusal, someUnswept, spanWithRoom, bestRun}
 use Rattle.model.specs.Classes.{kindOf, pagesFor}
@@ -50,7 +50,7 @@ pub record OpenStack (h : Heap) (s : ℕ) : Type 0 where
   pub below : s < 16
   pub isOpen : state h s ≢ 0
 
-pub open-passed : (h : Heap) (s : ℕ) → notOpen h s ≡ 0 → OpenStack h s
+pub open-passed : (h : Heap) (s : ℕ) → openRefusal h s ≡ 0 → OpenStack h s
 open-passed h s e = let x = simp passes at e in record { below = x .0; isOpen = x .1 }
 
 pub slot-passed : (h : Heap) (s i : ℕ) → slotRefusal h s i ≡ 0 → OpenStack h s × (i < 32)

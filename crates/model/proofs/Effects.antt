@@ -9,7 +9,7 @@ use lib.ListN.{length, set}
 use lib.Dec.{T, eqb}
 use Rattle.model.specs.Memory.{Heap, lent, withRoots, putWords, root, slot, slotAt, stateAt, addressOf, phase}
 use Rattle.model.specs.Answers.{outcome, _orElse_}
-use Rattle.model.specs.Checks.{phaseIsNot, notOpen}
+use Rattle.model.specs.Checks.{phaseRefusal, openRefusal}
 use Rattle.model.specs.Classes.{classOf, kindOf, pagesFor, elementWordsOf}
 use Rattle.model.specs.declared.Answer.the-variants.{Done, Value}
 use Rattle.model.specs.Bitmaps.{Part, allocated, marked, pointer, is, putBit, putBits}
@@ -147,10 +147,10 @@ unfolding allocate
 allocate-is h s i size p = refl
 
 pub start-is : (h : Heap) →
-    start h ≡ outcome (phaseIsNot h 0) h Done (withRoots (set (set (putWords 544 16 (λ i. cond (eqb (root h i) 0) 0 2) (h .roots)) 560 2) 561 1) h)
+    start h ≡ outcome (phaseRefusal h 0) h Done (withRoots (set (set (putWords 544 16 (λ i. cond (eqb (root h i) 0) 0 2) (h .roots)) 560 2) 561 1) h)
 unfolding start
 start-is h = refl
 
-pub scan-stack-is : (h : Heap) (s : ℕ) → scanStack h s ≡ scanOutcome (phaseIsNot h 1 orElse notOpen h s) 32 (slot h s) (stateAt s) h
+pub scan-stack-is : (h : Heap) (s : ℕ) → scanStack h s ≡ scanOutcome (phaseRefusal h 1 orElse openRefusal h s) 32 (slot h s) (stateAt s) h
 unfolding scanStack
 scan-stack-is h s = refl

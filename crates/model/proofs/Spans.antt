@@ -12,7 +12,7 @@ use lib.ListN.{getD, length}
 use lib.Dec.{T, eqb, ltb}
 use borrow.Author.Tests.{ltb-true, ltb-false, eqb-true, eqb-false}
 use Rattle.model.specs.Classes.{elementWordsOf, elementsOf, classPages}
-use Rattle.model.specs.Spans.{owner, pageCount, kindEntry, elementWords, elements, elementStart, elementNumber, spanOf, elementOf, inElement, isElement}
+use Rattle.model.specs.Spans.{owner, pageCount, kindEntry, elementWords, elements, elementStart, elementNumber, spanOf, elementOf, inElement, startsElement}
 use Rattle.model.proofs.Classes.{Fits, small-fits, large-fits}
 
 -- the first word of the element, of the span at page s, that word v lies in

@@ -15,7 +15,7 @@ use Rattle.model.specs.Classes.{classOf, kindOf, pagesFor, elementWordsO
 use Rattle.model.specs.Bitmaps.{allocated, marked, pointer, is}
 use Rattle.model.specs.Spans.{putPage, owner, pageCount, kindEntry, isUnswept, elementStart, elementNumber, spanPage}
 use Rattle.model.specs.Shading.{shade, shadeAll, barrier}
-use Rattle.model.specs.Checks.{phaseIsNot, notOpen}
+use Rattle.model.specs.Checks.{phaseRefusal, openRefusal}
 use Rattle.model.specs.Answers.{_orElse_}
 use Rattle.model.specs.Allocate.{hasRoom, newBits, newWord, allocate, allocateRefusal}
 use Rattle.model.specs.Cycle.{start, scanStack, sweptBits, sweptTable, nothingLeft}
@@ -88,10 +88,10 @@ module _ (h : Heap) (Z : Sized h) where
 
   -- a start marks nothing
   pub start-bits : start h .heap .bits ≡ h .bits
-  start-bits = rw (start-is h) (cond-same (eqb (phaseIsNot h 0) 0) (h .bits))
+  start-bits = rw (start-is h) (cond-same (eqb (phaseRefusal h 0) 0) (h .bits))
 
   -- a scan of a gray stack marks what each of its 32 slots names
-  pub scan-slots : (s : ℕ) → (phaseIsNot h 1 orElse notOpen h s) ≡ 0 → state h s ≡ 2 → ((i : ℕ) → i < 32 → There (h .pages) (slot h s i)) →
+  pub scan-slots : (s : ℕ) → (phaseRefusal h 1 orElse openRefusal h s) ≡ 0 → state h s ≡ 2 → ((i : ℕ) → i < 32 → There (h .pages) (slot h s i)) →
       (i : ℕ) → i < 32 → slot h s i ≢ 0 → T (bit (h .pages) marked (scanStack h s .heap .bits) (wordOf (slot h s i)))
   scan-slots s e two th i l d = rw (scan-stack-is h s, e, eq-eqb (state h s) 2 two) (all-marks (h .pages) (h .table) (slot h s) (h .bits) (four h Z) 32 th i l d)
 

@@ -8,8 +8,8 @@ use Rattle.model.specs.Memory.{Heap, lent, words, putWords, slotAt, phas
 use Rattle.model.specs.Answers.{Outcome, outcome, _orElse_, sweepFirst, noRoom}
 use Rattle.model.specs.Classes.{classOf, kindOf, pagesFor, elementWordsOf}
 use Rattle.model.specs.Bitmaps.{is, allocated, marked, pointer, putBit, putBits}
-use Rattle.model.specs.Spans.{kindEntry, isFree, isFirst, isUnswept, elements, elementStart, putPages, spanPage}
-use Rattle.model.specs.Checks.{slotRefusal, noSize}
+use Rattle.model.specs.Spans.{kindEntry, isFree, startsSpan, isUnswept, elements, elementStart, putPages, spanPage}
+use Rattle.model.specs.Checks.{slotRefusal, sizeRefusal}
 use Rattle.model.specs.declared.Answer.the-variants.{Value}
 
 -- "its lowest free element": of the span at page s, or the number of its elements
@@ -18,7 +18,7 @@ freeElement h s = firstBelow (elements (h .table) s) (λ k. not (is allocated h 
 
 -- a "swept span of this kind ... that has a free element" starts at page s (an unswept one's entry is 256 more than its kind)
 abbrev pub hasRoom : Heap → ℕ → ℕ → Bool
-hasRoom h kind s = isFirst (h .table) s && kindEntry (h .table) s == kind && freeElement h s <? elements (h .table) s
+hasRoom h kind s = startsSpan (h .table) s && kindEntry (h .table) s == kind && freeElement h s <? elements (h .table) s
 
 -- "the swept span of this kind with the lowest start page that has a free element", or P
 unfoldable pub spanWithRoom : Heap → ℕ → ℕ
@@ -42,7 +42,7 @@ bestRun p t n = firstBelow p (isShortest p t n)
 
 -- some span is unswept
 unfoldable pub someUnswept : ℕ → List ℕ → Bool
-someUnswept p t = someBelow p (λ s. isFirst t s && isUnswept t s)
+someUnswept p t = someBelow p (λ s. startsSpan t s && isUnswept t s)
 
 -- there is room for a record of this kind, whose new span would take n pages
 abbrev pub roomFor : Heap → ℕ → ℕ → Bool
@@ -77,7 +77,7 @@ newBits h w p =
 -- "Into slot i of stack s, a size and p."
 unfoldable pub allocateRefusal : Heap → ℕ → ℕ → ℕ → ℕ → ℕ
 allocateRefusal h s i size p =
-    slotRefusal h s i orElse noSize size p orElse roomRefusal h (kindOf size p) (pagesFor size)
+    slotRefusal h s i orElse sizeRefusal size p orElse roomRefusal h (kindOf size p) (pagesFor size)
 
 -- "All words of the element become 0 ... The answer is the address."
 unfoldable pub allocate : Heap → ℕ → ℕ → ℕ → ℕ → Outcome

@@ -3,10 +3,10 @@ use Prim.Native.Nat.{ℕ, _+_, _-_}
 use mathlib.Core.Bool.{Bool, _&&_, _||_, not, cond}
 use mathlib.Core.List.{List}
 use Rattle.model.specs.Bounded.{_==_, _<?_, _≤?_, if_then_else_, _implies_, allBelow, someBelow}
-use Rattle.model.specs.Memory.{Heap, words, stacks, slots, slot, state, globalsState, phase, root, closed, scanned, grayState, off, mark, sweep, nil, addressOf, wordOf, recordOf, word, firstState}
+use Rattle.model.specs.Memory.{Heap, words, stacks, slots, slot, state, globalsState, phase, root, closed, openState, grayState, off, mark, sweep, nil, addressOf, wordOf, recordOf, word, firstState}
 use Rattle.model.specs.Classes.{classPages, fewestLarge, mostLarge, kinds}
 use Rattle.model.specs.Bitmaps.{is, allocated, marked, gray}
-use Rattle.model.specs.Spans.{owner, pageCount, kindEntry, isFree, isFirst, unsweptFlag, isUnswept, kindAt, classAt, isScan, elements, elementStart, spanOf, elementOf, inElement, isElement, isPointer, kept}
+use Rattle.model.specs.Spans.{owner, pageCount, kindEntry, isFree, startsSpan, unsweptFlag, isUnswept, kindAt, classAt, isScan, elements, elementStart, spanOf, elementOf, inElement, startsElement, isPointer, kept}
 
 -- "the page count is the class's (5 to 128 for class 0)"; a kind is one of the 134, and at most the unswept flag is added
 unfoldable pub goodKind : List ℕ → ℕ → Bool
@@ -33,12 +33,12 @@ goodPage h g =
     let t = h .table in
     let s = owner t g - 1 in
     if isFree t g then pageCount t g == 0 && kindEntry t g == 0
-    else if isFirst t g then goodFirst h g
-    else s <? g && isFirst t s && g <? s + pageCount t s && isFurther t s g
+    else if startsSpan t g then goodFirst h g
+    else s <? g && startsSpan t s && g <? s + pageCount t s && isFurther t s g
 
 -- "allocated bits only at elements"
 abbrev pub goodAllocated : Heap → ℕ → Bool
-goodAllocated h w = is allocated h w implies isElement (h .table) w
+goodAllocated h w = is allocated h w implies startsElement (h .table) w
 
 -- "marked only where allocated, none in phase off, only in unswept spans in phase sweep"
 abbrev pub goodMarked : Heap → ℕ → Bool
@@ -78,7 +78,7 @@ goodStack h s =
 
 unfoldable pub goodStates : Heap → Bool
 goodStates h =
-    phase h ≤? sweep && scanned ≤? globalsState h && globalsState h ≤? grayState
+    phase h ≤? sweep && openState ≤? globalsState h && globalsState h ≤? grayState
     && (globalsState h == grayState implies phase h == mark)
 
 -- "every root ... is nil or the address of a kept element": the slots and the globals

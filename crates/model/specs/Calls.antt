@@ -4,7 +4,7 @@ use mathlib.Core.Bool.{not}
 use mathlib.Core.List.{List, [], _∷_}
 use Rattle.model.specs.Memory.{Heap, lent}
 use Rattle.model.specs.Answers.{Outcome, outcome, damaged, _given_, _orElse_}
-use Rattle.model.specs.Checks.{badBuffersOf}
+use Rattle.model.specs.Checks.{buffersRefusal}
 use Rattle.model.specs.Audit.{audit}
 use Rattle.model.specs.Allocate.{allocate}
 use Rattle.model.specs.Records.{setup, openStack, closeStack, copy, clear, load, store, put, get, loadGlobal, storeGlobal}
@@ -14,7 +14,7 @@ use Rattle.model.specs.declared.Answer.the-variants.{Done}
 
 -- "Every call after setup asks the audit first.": refusal 1, then 12, "the audit below says no (not asked by setup)"
 unfoldable pub entry : Heap → ℕ
-entry h = badBuffersOf h orElse damaged given not (audit h)
+entry h = buffersRefusal h orElse damaged given not (audit h)
 
 -- .. and then what the call does
 abbrev pub audited : Heap → Outcome → Outcome

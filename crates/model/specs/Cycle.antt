@@ -4,11 +4,11 @@ use mathlib.Core.Bool.{Bool, true, false, _&&_, _||_, not, cond}
 use mathlib.Core.List.{List}
 use lib.ListN.{set}
 use Rattle.model.specs.Bounded.{_==_, _<?_, if_then_else_, allBelow, firstBelow, someBelow, countBelow}
-use Rattle.model.specs.Memory.{Heap, lent, choose, withTable, withBits, words, pageWords, stacks, slots, globals, slot, global, state, root, globalsState, firstState, stateAt, globalsStateAt, phaseAt, closed, scanned, grayState, off, mark, sweep, setRoot, putWords, withRoots, word, addressOf, firstWord}
+use Rattle.model.specs.Memory.{Heap, lent, choose, withTable, withBits, words, pageWords, stacks, slots, globals, slot, global, state, root, globalsState, firstState, stateAt, globalsStateAt, phaseAt, closed, openState, grayState, off, mark, sweep, setRoot, putWords, withRoots, word, addressOf, firstWord}
 use Rattle.model.specs.Answers.{Outcome, outcome, _orElse_, _given_, unfinished}
 use Rattle.model.specs.Bitmaps.{is, allocated, marked, gray, pointer, putBit, putBits}
-use Rattle.model.specs.Spans.{owner, pageCount, kindEntry, kindAt, isFirst, isUnswept, unsweptFlag, elements, elementStart, elementNumber, isPointer, pointerCount, Entry, freePage, putPage, putPages, spanPage}
-use Rattle.model.specs.Checks.{phaseIsNot, notOpen}
+use Rattle.model.specs.Spans.{owner, pageCount, kindEntry, kindAt, startsSpan, isUnswept, unsweptFlag, elements, elementStart, elementNumber, isPointer, pointerCount, Entry, freePage, putPage, putPages, spanPage}
+use Rattle.model.specs.Checks.{phaseRefusal, openRefusal}
 use Rattle.model.specs.Shading.{shadeAll, shadeCount}
 use Rattle.model.specs.declared.Answer.the-variants.{Done, Value, Swept}
 
@@ -16,11 +16,11 @@ use Rattle.model.specs.declared.Answer.the-variants.{Done, Value, Swept}
 unfoldable pub start : Heap → Outcome
 start h =
     let grayed = putWords firstState stacks (λ i. if root h i == closed then closed else grayState) (h .roots) in
-    outcome (phaseIsNot h off) h Done (setRoot phaseAt mark (setRoot globalsStateAt grayState (withRoots grayed h)))
+    outcome (phaseRefusal h off) h Done (setRoot phaseAt mark (setRoot globalsStateAt grayState (withRoots grayed h)))
 
 -- the n values shaded, the state at word `at` of the roots 1
 abbrev pub scan : ℕ → (ℕ → ℕ) → ℕ → Heap → Heap
-scan n value at h = setRoot at scanned (withBits (shadeAll (h .pages) (h .table) n value (h .bits)) h)
+scan n value at h = setRoot at openState (withBits (shadeAll (h .pages) (h .table) n value (h .bits)) h)
 
 -- "The answer counts the mark bits that turned on. Already scanned: 0."
 abbrev pub scanOutcome : ℕ → ℕ → (ℕ → ℕ) → ℕ → Heap → Outcome
@@ -30,10 +30,10 @@ scanOutcome refusal n value at h =
 
 -- "Scan a stack, scan the globals (phase mark): shade every slot, state becomes 1."
 unfoldable pub scanStack : Heap → ℕ → Outcome
-scanStack h s = scanOutcome (phaseIsNot h mark orElse notOpen h s) slots (slot h s) (stateAt s) h
+scanStack h s = scanOutcome (phaseRefusal h mark orElse openRefusal h s) slots (slot h s) (stateAt s) h
 
 unfoldable pub scanGlobals : Heap → Outcome
-scanGlobals h = scanOutcome (phaseIsNot h mark) globals (global h) globalsStateAt h
+scanGlobals h = scanOutcome (phaseRefusal h mark) globals (global h) globalsStateAt h
 
 -- "the gray record with the lowest address", or the number of words
 unfoldable pub firstGray : Heap → ℕ
@@ -49,18 +49,18 @@ unfoldable pub markStep : Heap → Outcome
 markStep h =
     let w = firstGray h in
     let found = w <? words h in
-    outcome (phaseIsNot h mark) h (Value (cond found (addressOf w) 0)) (choose found (withBits (scanRecord w h) h) h)
+    outcome (phaseRefusal h mark) h (Value (cond found (addressOf w) 0)) (choose found (withBits (scanRecord w h) h) h)
 
 -- 10: "finish with a gray stack, gray globals or a gray record"
 unfoldable pub finishRefusal : Heap → ℕ
 finishRefusal h =
-    phaseIsNot h mark
+    phaseRefusal h mark
     orElse unfinished given (someBelow stacks (λ s. state h s == grayState) || globalsState h == grayState || firstGray h <? words h)
 
 -- page g's entry, unswept if it starts a span
 abbrev pub unsweptPage : List ℕ → ℕ → Entry
 unsweptPage t g =
-    record { owner = owner t g; count = pageCount t g; kind = kindEntry t g + (if isFirst t g then unsweptFlag else 0) }
+    record { owner = owner t g; count = pageCount t g; kind = kindEntry t g + (if startsSpan t g then unsweptFlag else 0) }
 
 -- "Finish (phase mark): phase 2, every span becomes unswept."
 unfoldable pub finish : Heap → Outcome
@@ -69,7 +69,7 @@ finish h =
 
 -- "the unswept span with the lowest start page", or P
 unfoldable pub firstUnswept : ℕ → List ℕ → ℕ
-firstUnswept p t = firstBelow p (λ s. isFirst t s && isUnswept t s)
+firstUnswept p t = firstBelow p (λ s. startsSpan t s && isUnswept t s)
 
 -- "Allocated becomes marked, marks go, pointer bits of freed elements go": over the words of the span at page s.
 -- A pointer bit stays where the element that it lies in is marked.
@@ -105,5 +105,5 @@ sweepStep h =
     let found = s <? h .pages in
     let returned = if nothingLeft h s then pageCount (h .table) s else 0 in
     let swept = lent (h .pages) (h .arena) (sweptTable h s) (sweptBits h s) (h .roots) in
-    outcome (phaseIsNot h sweep) h (cond found (Swept (s + 1) (freedCount h s) returned) (Swept 0 0 0))
+    outcome (phaseRefusal h sweep) h (cond found (Swept (s + 1) (freedCount h s) returned) (Swept 0 0 0))
     (choose found swept (setRoot phaseAt off h))

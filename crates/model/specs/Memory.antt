@@ -113,8 +113,8 @@ stateAt s = firstState + s
 abbrev pub closed : ℕ
 closed = 0
 
-abbrev pub scanned : ℕ
-scanned = 1
+abbrev pub openState : ℕ
+openState = 1
 
 abbrev pub grayState : ℕ
 grayState = 2

@@ -2,9 +2,9 @@
 use Prim.Native.Nat.{ℕ, _+_, _*_}
 use mathlib.Core.List.{List}
 use lib.ListN.{set, replicate}
-use Rattle.model.specs.Memory.{Heap, lent, withArena, withBits, withRoots, entryNumbers, bitmapWords, rootWords, slots, slotAt, globalAt, stateAt, globalsStateAt, slot, global, word, putWords, setRoot, nil, scanned, closed}
+use Rattle.model.specs.Memory.{Heap, lent, withArena, withBits, withRoots, entryNumbers, bitmapWords, rootWords, slots, slotAt, globalAt, stateAt, globalsStateAt, slot, global, word, putWords, setRoot, nil, openState, closed}
 use Rattle.model.specs.Answers.{Outcome, outcome}
-use Rattle.model.specs.Checks.{badBuffersOf, notOpen, notClosed, slotRefusal, slotsRefusal, globalRefusal, pointerRefusal, numberRefusal, recordAt}
+use Rattle.model.specs.Checks.{buffersRefusal, openRefusal, closedRefusal, slotRefusal, slotsRefusal, globalRefusal, pointerRefusal, numberRefusal, recordAt}
 use Rattle.model.specs.Shading.{barrier}
 use Rattle.model.specs.declared.Answer.the-variants.{Done, Value}
 
@@ -12,10 +12,10 @@ use Rattle.model.specs.declared.Answer.the-variants.{Done, Value}
 unfoldable pub fresh : Heap → Heap
 fresh h =
     lent (h .pages) (h .arena) (replicate (entryNumbers * h .pages) 0) (replicate (bitmapWords * h .pages) 0)
-    (set (replicate rootWords 0) globalsStateAt scanned)
+    (set (replicate rootWords 0) globalsStateAt openState)
 
 unfoldable pub setup : Heap → Outcome
-setup h = outcome (badBuffersOf h) h Done (fresh h)
+setup h = outcome (buffersRefusal h) h Done (fresh h)
 
 -- "slots nil", and the stack's state
 unfoldable pub emptied : Heap → ℕ → ℕ → Heap
@@ -23,11 +23,11 @@ emptied h s state = withRoots (set (putWords (slotAt s 0) slots (λ i. nil) (h .
 
 -- "open a stack (all slots nil, state 1 in every phase)"
 unfoldable pub openStack : Heap → ℕ → Outcome
-openStack h s = outcome (notClosed h s) h Done (emptied h s scanned)
+openStack h s = outcome (closedRefusal h s) h Done (emptied h s openState)
 
 -- "close a stack (slots nil, state 0)"
 unfoldable pub closeStack : Heap → ℕ → Outcome
-closeStack h s = outcome (notOpen h s) h Done (emptied h s closed)
+closeStack h s = outcome (openRefusal h s) h Done (emptied h s closed)
 
 -- "A call that sets a slot answers its new value; get answers the number; the others answer 0.": refused by n, or slot i of stack s becomes v
 abbrev pub slotBecomes : ℕ → Heap → ℕ → ℕ → ℕ → Outcome

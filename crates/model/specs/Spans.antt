@@ -46,8 +46,8 @@ abbrev pub spanPage : ℕ → ℕ → ℕ → ℕ → Entry
 spanPage s n kind g = record { owner = s + 1; count = cond (g == s) n 0; kind = cond (g == s) kind 0 }
 
 -- a span starts at page s
-abbrev pub isFirst : List ℕ → ℕ → Bool
-isFirst t s = owner t s == s + 1
+abbrev pub startsSpan : List ℕ → ℕ → Bool
+startsSpan t s = owner t s == s + 1
 
 -- "plus 256 in the kind if the span is unswept"
 abbrev pub unsweptFlag : ℕ
@@ -93,8 +93,8 @@ abbrev pub inElement : List ℕ → ℕ → Bool
 inElement t w = not (isFree t (pageOf w)) && elementNumber t (spanOf t w) w <? elements t (spanOf t w)
 
 -- word w is the first of an element
-abbrev pub isElement : List ℕ → ℕ → Bool
-isElement t w = inElement t w && elementOf t w == w
+abbrev pub startsElement : List ℕ → ℕ → Bool
+startsElement t w = inElement t w && elementOf t w == w
 
 -- word w holds a pointer
 abbrev pub isPointer : Heap → ℕ → Bool

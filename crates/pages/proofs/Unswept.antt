@@ -7,7 +7,7 @@ use lib.Dec.{T, ltb}
 use borrow.Author.Tests.{ltb-false}
 use mathlib.Core.List.{List}
 use Rattle.model.specs.Bounded.{firstBelow, someBelow}
-use Rattle.model.specs.Spans.{owner, kindEntry, isFirst, isUnswept, unsweptFlag}
+use Rattle.model.specs.Spans.{owner, kindEntry, startsSpan, isUnswept, unsweptFlag}
 use Rattle.model.specs.Allocate.{someUnswept}
 use Rattle.model.specs.Cycle.{firstUnswept}
 use Rattle.model.proofs.Tests.{is-true, of-true, same-test, and-iff, eqb-iff, ltb-iff, leb-iff, clash}
@@ -40,5 +40,5 @@ pub unswept-at : (p : ℕ) (t : List ℕ) → firstUnswept p t < p → (owner t 
 unfolding firstUnswept
 unswept-at p t l =
     let r = firstUnswept p t in
-    let b = and-iff (isFirst t r) (isUnswept t r) .0 (is-true _ (first-props p (λ s. isFirst t s && isUnswept t s) .holds l)) in
+    let b = and-iff (startsSpan t r) (isUnswept t r) .0 (is-true _ (first-props p (λ s. startsSpan t s && isUnswept t s) .holds l)) in
     (eqb-iff _ _ .0 (b .0), leb-iff _ _ .0 (b .1))

@@ -6,7 +6,7 @@ ghost use mathlib.Core.Bool.{_&&_};
 ghost use Prim.Native.Nat.{_+_, _-_, _*_, _<_, _≤_, _/_};
 ghost use lib.ListN.{length, getD};
 ghost use Rattle.model.specs.Memory.{maxPages, entryNumbers, pageOf};
-ghost use Rattle.model.specs.Spans.{owner, pageCount, kindEntry, kindAt, spanOf, isFirst, isUnswept};
+ghost use Rattle.model.specs.Spans.{owner, pageCount, kindEntry, kindAt, spanOf, startsSpan, isUnswept};
 ghost use Rattle.model.specs.Spans.{putPage, putPages, spanPage, freePage};
 ghost use Rattle.model.specs.Allocate.{runLength, bestRun, someUnswept};
 ghost use Rattle.model.specs.Cycle.{unsweptPage, firstUnswept};
@@ -181,10 +181,10 @@ pub fn make_all_unswept(p: usize, table: &mut [u32])
     requires { ⌜ Flaggable p (now table) ⌝ }
     ensures { λ r. ⌜ now (table .exit) ≡ putPages 0 p (unsweptPage (now (table .entry))) (now (table .entry)) ⌝ }
 {
-    let mut g = 0;
-    while g < p {
-        let at = g;
-        g += 1;
+    let mut page = 0;
+    while page < p {
+        let at = page;
+        page += 1;
         if owner(table, at) == at + 1 {
             table[ENTRY_NUMBERS * at + KIND] += UNSWEPT_FLAG;
         }
@@ -194,7 +194,7 @@ pub fn make_all_unswept(p: usize, table: &mut [u32])
 // An unswept span starts at page s.
 fn starts_unswept(table: &[u32], s: usize) -> bool
     requires { ⌜ entryNumbers * s + 2 < length (now table) ⌝ }
-    ensures { λ r. ⌜ r ≡ (isFirst (now (table .entry)) s && isUnswept (now (table .entry)) s) ⌝ }
+    ensures { λ r. ⌜ r ≡ (startsSpan (now (table .entry)) s && isUnswept (now (table .entry)) s) ⌝ }
 {
     if owner(table, s) != s + 1 {
         return false;

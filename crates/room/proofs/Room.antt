@@ -10,7 +10,7 @@ use borrow.Author.Tests.{lt-ltb, le-ltb, eq-eqb, ne-eqb}
 use Rattle.model.specs.Memory.{Heap, lent, phase, sweep, firstWord}
 use Rattle.model.specs.Answers.{_orElse_, sweepFirst, noRoom}
 use Rattle.model.specs.Classes.{kindOf, pagesFor}
-use Rattle.model.specs.Checks.{slotRefusal, noSize}
+use Rattle.model.specs.Checks.{slotRefusal, sizeRefusal}
 use Rattle.model.specs.Spans.{kindEntry, elements, elementStart, elementWords}
 use Rattle.model.specs.Allocate.{freeElement, hasRoom, spanWithRoom, bestRun, someUnswept, roomRefusal, newWord, allocateRefusal}
 use Rattle.model.proofs.Tests.{is-true}
@@ -81,14 +81,14 @@ module _ (h : Heap) (s i size q : ℕ) where
   unfolding allocateRefusal _orElse_
   refused-slot d = rw (ne-eqb _ _ d)
 
-  pub refused-size : slotRefusal h s i ≡ 0 → noSize size q ≢ 0 → noSize size q ≡ allocateRefusal h s i size q
+  pub refused-size : slotRefusal h s i ≡ 0 → sizeRefusal size q ≢ 0 → sizeRefusal size q ≡ allocateRefusal h s i size q
   unfolding allocateRefusal _orElse_
   refused-size e d = rw (eq-eqb _ _ e, ne-eqb _ _ d)
 
-  pub refused-room : slotRefusal h s i ≡ 0 → noSize size q ≡ 0 → roomRefusal h (kindOf size q) (pagesFor size) ≡ allocateRefusal h s i size q
+  pub refused-room : slotRefusal h s i ≡ 0 → sizeRefusal size q ≡ 0 → roomRefusal h (kindOf size q) (pagesFor size) ≡ allocateRefusal h s i size q
   unfolding allocateRefusal _orElse_
   refused-room e d = rw (eq-eqb _ _ e, eq-eqb _ _ d)
 
 -- a size that passed has pages
-pub size-pages : (size q : ℕ) → noSize size q ≡ 0 → 0 < pagesFor size
+pub size-pages : (size q : ℕ) → sizeRefusal size q ≡ 0 → 0 < pagesFor size
 size-pages size q e = let x = simp passes at e in size-shape size (x .0 .1) .pages

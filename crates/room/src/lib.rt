@@ -8,7 +8,7 @@ ghost use lib.Dec.{eqb};
 ghost use lib.ListN.{length, getD};
 ghost use Rattle.model.specs.Memory.{lent, sweep, phaseAt, rootWords, entryNumbers};
 ghost use Rattle.model.specs.Answers.{sweepFirst, noRoom};
-ghost use Rattle.model.specs.Checks.{noSize};
+ghost use Rattle.model.specs.Checks.{sizeRefusal};
 ghost use Rattle.model.specs.Classes.{kindOf, pagesFor};
 ghost use Rattle.model.specs.Allocate.{someUnswept, roomRefusal, allocateRefusal};
 ghost use Rattle.room.specs.Needs.{Searches, Found};
@@ -24,7 +24,7 @@ pub struct Place {
 
 // The refusal of a size and a number of pointer words, or 0.
 fn size_refusal(size: u64, pointers: u64) -> u64
-    ensures { λ r. ⌜ r ≡ noSize size pointers ⌝ }
+    ensures { λ r. ⌜ r ≡ sizeRefusal size pointers ⌝ }
 {
     if size == 0 {
         return units::BAD_SIZE;

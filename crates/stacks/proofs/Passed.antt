@@ -4,27 +4,27 @@ use mathlib.Core.List.{List, []}
 use mathlib.Core.Path.{_≡_, sym, _∙_}
 use Rattle.model.specs.Memory.{Heap, lent}
 use Rattle.model.specs.Answers.{_orElse_}
-use Rattle.model.specs.Checks.{notOpen, notClosed, noSlot, noGlobal, slotRefusal, slotsRefusal, globalRefusal}
+use Rattle.model.specs.Checks.{openRefusal, closedRefusal, slotNumberRefusal, globalNumberRefusal, slotRefusal, slotsRefusal, globalRefusal}
 use Rattle.model.proofs.Outcomes.{orElse-assoc}
 use Rattle.model.proofs.Checks.{passes, open-passed, slot-passed, slots-passed, global-passed}
 use Rattle.stacks.specs.OnRoots.{Tests}
 
-pub slots-chain : (h : Heap) (s i j : ℕ) → slotsRefusal h s i j ≡ (slotRefusal h s i orElse noSlot j)
+pub slots-chain : (h : Heap) (s i j : ℕ) → slotsRefusal h s i j ≡ (slotRefusal h s i orElse slotNumberRefusal j)
 unfolding slotsRefusal slotRefusal
-slots-chain h s i j = sym (orElse-assoc (notOpen h s) (noSlot i) (noSlot j))
+slots-chain h s i j = sym (orElse-assoc (openRefusal h s) (slotNumberRefusal i) (slotNumberRefusal j))
 
-pub global-chain : (h : Heap) (s i g : ℕ) → globalRefusal h s i g ≡ (slotRefusal h s i orElse noGlobal g)
+pub global-chain : (h : Heap) (s i g : ℕ) → globalRefusal h s i g ≡ (slotRefusal h s i orElse globalNumberRefusal g)
 unfolding globalRefusal slotRefusal
-global-chain h s i g = sym (orElse-assoc (notOpen h s) (noSlot i) (noGlobal g))
+global-chain h s i g = sym (orElse-assoc (openRefusal h s) (slotNumberRefusal i) (globalNumberRefusal g))
 
 -- some heap with these roots
 abbrev with : List ℕ → Heap
 with r = lent 0 [] [] [] r
 
-pub open-bounds : (r : List ℕ) (s : ℕ) {n : ℕ} → Tests (λ h. notOpen h s) r n → n ≡ 0 → s < 16
+pub open-bounds : (r : List ℕ) (s : ℕ) {n : ℕ} → Tests (λ h. openRefusal h s) r n → n ≡ 0 → s < 16
 open-bounds r s f e = open-passed (with r) s (sym (f 0 [] [] []) ∙ e) .below
 
-pub closed-bounds : (r : List ℕ) (s : ℕ) {n : ℕ} → Tests (λ h. notClosed h s) r n → n ≡ 0 → s < 16
+pub closed-bounds : (r : List ℕ) (s : ℕ) {n : ℕ} → Tests (λ h. closedRefusal h s) r n → n ≡ 0 → s < 16
 closed-bounds r s f e = let x = simp passes at (sym (f 0 [] [] []) ∙ e) in x .0
 
 pub slot-bounds : (r : List ℕ) (s i : ℕ) {n : ℕ} → Tests (λ h. slotRefusal h s i) r n → n ≡ 0 → (s < 16) × (i < 32)

@@ -5,7 +5,7 @@ ghost use mathlib.Core.Path.{_≡_};
 ghost use Prim.Native.Nat.{_<_};
 ghost use lib.ListN.{length};
 ghost use Rattle.model.specs.Memory.{rootWords, stacks, slots, slotAt};
-ghost use Rattle.model.specs.Checks.{notOpen, notClosed, slotRefusal, slotsRefusal, globalRefusal};
+ghost use Rattle.model.specs.Checks.{openRefusal, closedRefusal, slotRefusal, slotsRefusal, globalRefusal};
 ghost use Rattle.model.specs.Records.{emptied, openStack, closeStack, copy, clear, loadGlobal};
 ghost use Rattle.stacks.specs.OnRoots.{Tests, Leaves, Does};
 use model::Answer;
@@ -28,7 +28,7 @@ pub fn slot_at(s: u64, i: u64) -> usize
 // The refusal of a call on a stack that must be open.
 pub fn not_open(roots: &[u64], s: u64) -> u64
     requires { ⌜ length (now roots) ≡ rootWords ⌝ }
-    ensures { λ r. ⌜ Tests (λ h. notOpen h s) (now (roots .entry)) r ⌝ }
+    ensures { λ r. ⌜ Tests (λ h. openRefusal h s) (now (roots .entry)) r ⌝ }
 {
     if STACKS <= s {
         return units::BAD_STACK;
@@ -42,7 +42,7 @@ pub fn not_open(roots: &[u64], s: u64) -> u64
 // The refusal of a call on a stack that must be closed.
 pub fn not_closed(roots: &[u64], s: u64) -> u64
     requires { ⌜ length (now roots) ≡ rootWords ⌝ }
-    ensures { λ r. ⌜ Tests (λ h. notClosed h s) (now (roots .entry)) r ⌝ }
+    ensures { λ r. ⌜ Tests (λ h. closedRefusal h s) (now (roots .entry)) r ⌝ }
 {
     if STACKS <= s {
         return units::BAD_STACK;
@@ -109,7 +109,7 @@ pub fn open_stack(roots: &mut [u64], s: u64) -> Answer
     if n != 0 {
         return Answer::Refused(n);
     }
-    empty(roots, s as usize, units::SCANNED);
+    empty(roots, s as usize, units::OPEN);
     Answer::Done
 }
 

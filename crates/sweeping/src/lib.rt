@@ -12,9 +12,7 @@ ghost use Rattle.model.specs.Cycle.{sweptBits, sweepStep};
 ghost use Rattle.model.proofs.Facts.{Audited};
 ghost use Rattle.sweeping.specs.Spans.{Sweepable, SweepsSpan};
 use model::Answer;
-
-// The words of a page in one part of the bitmaps.
-const PAGE_BITS: usize = 16;
+use units::PAGE_BLOCKS;
 
 // Clears the pointer bits of the freed elements of the span at page s. A noscan span has none.
 fn clear_freed(p: usize, table: &[u32], bits: &mut [u64], s: usize)
@@ -43,9 +41,9 @@ fn sweep_bits(p: usize, table: &[u32], bits: &mut [u64], s: usize)
     ensures { λ r. ⌜ ((a roots : List ℕ) → now (bits .exit) ≡ sweptBits (lent p a (now (table .entry)) (now (bits .entry)) roots) s) ⌝ }
 {
     clear_freed(p, table, bits, s);
-    let first = PAGE_BITS * s;
-    let words = PAGE_BITS * pages::page_count(table, s);
-    bitrange::move_range(bits, first, PAGE_BITS * p + first, words);
+    let first = PAGE_BLOCKS * s;
+    let words = PAGE_BLOCKS * pages::page_count(table, s);
+    bitrange::move_range(bits, first, PAGE_BLOCKS * p + first, words);
 }
 
 // Sweeps the span at page s. What is freed is what is allocated and not marked; marks stand at
@@ -55,10 +53,10 @@ fn sweep_span(p: usize, table: &mut [u32], bits: &mut [u64], s: usize) -> Answer
     ensures { λ r. ⌜ ((a roots : List ℕ) → SweepsSpan (lent p a (now (table .entry)) (now (bits .entry)) roots) s r (now (table .exit)) (now (bits .exit))) ⌝ }
 {
     let n = pages::page_count(table, s);
-    let first = PAGE_BITS * s;
-    let words = PAGE_BITS * n;
+    let first = PAGE_BLOCKS * s;
+    let words = PAGE_BLOCKS * n;
     let allocated = bitrange::count_range(bits, first, words);
-    let kept = bitrange::count_range(bits, PAGE_BITS * p + first, words);
+    let kept = bitrange::count_range(bits, PAGE_BLOCKS * p + first, words);
     let freed = (allocated - kept) as u64;
     let start = s as u64 + 1;
     sweep_bits(p, table, bits, s);

@@ -23,6 +23,9 @@ pub const BITMAP_WORDS: usize = 64;
 
 pub const WORD_BITS: usize = 64;
 
+// The bitmap words of a page in each part. Each has the bits of 64 arena words, a block.
+pub const PAGE_BLOCKS: usize = 16;
+
 // A word with every bit set.
 pub const ALL_BITS: u64 = 0xFFFF_FFFF_FFFF_FFFF;
 
@@ -46,7 +49,7 @@ pub const PHASE: usize = 561;
 // The states of a stack; the globals have the last two.
 pub const CLOSED: u64 = 0;
 
-pub const SCANNED: u64 = 1;
+pub const OPEN: u64 = 1;
 
 pub const GRAY: u64 = 2;
 

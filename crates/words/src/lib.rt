@@ -20,10 +20,10 @@ pub fn zero(ws: &mut [u64])
 pub fn zero_numbers(ns: &mut [u32])
     ensures { λ r. ⌜ now (ns .exit) ≡ replicate (length (now (ns .entry))) 0 ⌝ }
 {
-    let mut i = 0;
-    while i < ns.len() {
-        ns[i] = 0;
-        i += 1;
+    let mut k = 0;
+    while k < ns.len() {
+        ns[k] = 0;
+        k += 1;
     }
 }
 

@@ -1,7 +1,7 @@
 -- Each part may rely on those before it; the first that says no refutes the audit, and the last decides. `k1` to `k5` are the places behind the
 -- tests of the five parts that said yes, `start` is the function's entry.
 use Rattle.model.proofs.Answers.{yes, no}
-use Rattle.audit.proofs.Joined.{refused, decided, tabled, spanned, filled, joined, paged}
+use Rattle.audit.proofs.Joined.{refused, decided, tabled, spanned, filled, told, joined, paged}
 use borrow.Author.Needs.{needs}
 use Rattle.audit.proofs.audit.Statement.{statement}
 use Rattle.audit.proofs.audit.Tie as tie
@@ -63,8 +63,9 @@ roots-ok-requires k4 κs =
     let k2 = k4 .before .before .before .before in
     let k1 = k2 .before .before .before in
     let start = k1 .before .before .before .before .before .before in
+    let states = yes (k1 .before .states-ok .result) (k1 .before .states-ok .ensures) (k1 .if1 .left) in
     let pages = yes (k2 .before .pages-ok .result) (k2 .before .pages-ok .ensures) (k2 .if2 .left) in
-    (spanned _ (start .pre) (pages .spans), start .pre .roots)
+    (spanned _ (start .pre) (pages .spans), told _ _ (pages .swept), start .pre .roots, states)
 
 returns-5 : tie.Need-returns-5
 returns-5 c =
@@ -81,7 +82,7 @@ contents-ok-requires k5 κs =
     let start = k1 .before .before .before .before .before .before in
     let pages = yes (k2 .before .pages-ok .result) (k2 .before .pages-ok .ensures) (k2 .if2 .left) in
     let bits = yes (k3 .before .bits-ok .result) (k3 .before .bits-ok .ensures) (k3 .if3 .left) in
-    filled _ (start .pre) (pages .spans) (bits .0)
+    (filled _ (start .pre) (pages .spans) (bits .0), told _ _ (pages .swept))
 
 returns-6 : tie.Need-returns-6
 returns-6 c =

@@ -8,6 +8,7 @@ use borrow.Author.Tests.{not-true, not-false}
 use borrow.Author.Count.{below-more}
 use lib.ListN.{getD}
 use lib.Dec.{T}
+use mathlib.Core.Bool.{true≢false}
 use mathlib.Core.Path.{_≡_, sym, _∙_}
 use Prim.Native.Nat.{ℕ, _+_, _*_, _-_, _<_, _≤_}
 use Rattle.model.proofs.Answers.{yes, no}
@@ -56,7 +57,7 @@ returns : tie.Need-returns Inv-loop μ-loop
 returns c = let l = c .before .before .before .before .loop in let z = c .before .before .before .before .before .before .before .before in (λ _. stopped _ _ _ _ (z .pre .0) _ _ (z .pre .1) (l .f) (omega arith) (l .inv .2) (sym (pointer-is _ _ _ _ _ (omega arith) (omega arith)) ∙ sym (c .before .test .ensures) ∙ not-true _ (c .if1 .taken)), λ _. tt)
 
 is-reference-requires : tie.Need-is-reference-requires Inv-loop μ-loop
-is-reference-requires c κs = search needs
+is-reference-requires c κs = (search needs, λ e. absurd (true≢false (sym e)))
 
 returns-2 : tie.Need-returns-2 Inv-loop μ-loop
 returns-2 c = let l = c .before .before .before .before .before .before .loop in (λ t. absurd t, λ h. no (c .before .is-reference .result) (c .before .is-reference .ensures) (c .if2 .taken) (h (l .f) (omega arith) (is-true _ (sym (pointer-is _ _ _ _ _ (omega arith) (omega arith)) ∙ sym (c .before .before .before .test .ensures) ∙ not-false _ (c .before .before .if1 .left)))))

@@ -1,59 +1,26 @@
--- The invariant: the roots below i are references.
-use Rattle.model.proofs.Facts.{Reference}
-use borrow.Author.Count.{below-none, below-more}
-use lib.ListN.{getD}
-use Prim.Native.Nat.{ℕ, _-_, _<_, _≤_}
+-- The slots, then the globals.
+use Rattle.audit_words.proofs.Ranges.{range-join}
 use Rattle.model.proofs.Answers.{yes, no}
 use native.Mathlib.Omega.{arith}
+use denote.Ref.{now}
 use borrow.Author.Needs.{needs}
 use Rattle.audit_words.proofs.roots_ok.Statement.{statement}
 use Rattle.audit_words.proofs.roots_ok.Tie as tie
 
-abbrev Inv-loop : tie.InvT-loop
-Inv-loop p table bits roots i₀ i = (i ≤ 544) × ((k : ℕ) → k < i → Reference p table bits (getD roots k 0))
+slots-ok-requires : tie.Need-slots-ok-requires
+slots-ok-requires c κs = search needs
 
-abbrev μ-loop : tie.MeasureT-loop
-μ-loop p table bits roots i₀ i = 544 - i
+returns : tie.Need-returns
+returns c = (λ t. absurd t, λ h. no (c .before .slots-ok .result) (c .before .slots-ok .ensures) (c .if1 .taken) (λ i l m. h i (omega arith)))
 
-loop-holds : tie.Need-loop-holds Inv-loop μ-loop
-loop-holds c = (search needs, below-none _)
+range-ok-requires : tie.Need-range-ok-requires
+range-ok-requires c κs = search needs
 
-mul-value : tie.Need-mul-value Inv-loop μ-loop
-mul-value c = search needs
-
-shared-slice-read-value : tie.Need-shared-slice-read-value Inv-loop μ-loop
-shared-slice-read-value c = search needs
-
-add-i : tie.Need-add-i Inv-loop μ-loop
-add-i c = search needs
-
-is-reference-requires : tie.Need-is-reference-requires Inv-loop μ-loop
-is-reference-requires c κs = search needs
-
-returns : tie.Need-returns Inv-loop μ-loop
-returns c = let l = c .before .before .before .before .loop in (λ t. absurd t, λ h. no (c .before .is-reference .result) (c .before .is-reference .ensures) (c .if1 .taken) (h (l .i) (omega arith)))
-
-loop-less : tie.Need-loop-less Inv-loop μ-loop
-loop-less c = search needs
-
-loop-again : tie.Need-loop-again Inv-loop μ-loop
-loop-again c = let l = c .before .before .before .before .loop in (search needs, below-more _ _ (l .inv .1) (yes (c .before .is-reference .result) (c .before .is-reference .ensures) (c .if1 .left)))
-
-returns-2 : tie.Need-returns-2 Inv-loop μ-loop
-returns-2 c = let l = c .before .loop in (λ _ k m. l .inv .1 k (omega arith), λ _. tt)
+returns-2 : tie.Need-returns-2
+returns-2 c =
+    let slots = yes (c .before .before .slots-ok .result) (c .before .before .slots-ok .ensures) (c .before .if1 .left) in
+    let a = c .before .before .before .before .before .before .args in
+    (λ x i l. range-join _ _ _ (now (a .roots)) 0 512 544 slots (c .range-ok .ensures .0 x) i (omega arith) l, λ h. c .range-ok .ensures .1 (λ i l m. h i m))
 
 pub roots-ok-spec : {M : Type 1} → statement M
-roots-ok-spec =
-    tie.close
-    (tie.spec
-    Inv-loop
-    μ-loop
-    loop-holds
-    mul-value
-    shared-slice-read-value
-    add-i
-    is-reference-requires
-    returns
-    loop-less
-    loop-again
-    returns-2)
+roots-ok-spec = tie.close (tie.spec slots-ok-requires returns range-ok-requires returns-2)

@@ -4,7 +4,7 @@ use mathlib.Core.Bool.{false, _&&_}
 use mathlib.Core.Path.{_≡_, sym, _∙_}
 use native.Mathlib.Omega.{arith}
 use borrow.Author.Count.{below-none, below-more}
-use Rattle.model.specs.Spans.{isFirst, isUnswept}
+use Rattle.model.specs.Spans.{startsSpan, isUnswept}
 use Rattle.model.specs.Cycle.{firstUnswept}
 use Rattle.model.proofs.Bounded.{first-is}
 use borrow.Author.Needs.{needs}
@@ -12,7 +12,7 @@ use Rattle.pages.proofs.first_unswept.Statement.{statement}
 use Rattle.pages.proofs.first_unswept.Tie as tie
 
 abbrev Inv-loop : tie.InvT-loop
-Inv-loop p table s₀ s = (s ≤ p) × ((k : ℕ) → k < s → (isFirst table k && isUnswept table k) ≡ false)
+Inv-loop p table s₀ s = (s ≤ p) × ((k : ℕ) → k < s → (startsSpan table k && isUnswept table k) ≡ false)
 
 abbrev μ-loop : tie.MeasureT-loop
 μ-loop p table s₀ s = p - s

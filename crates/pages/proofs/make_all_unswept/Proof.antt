@@ -1,4 +1,4 @@
--- The invariant: the entries below page g are written.
+-- The invariant: the entries below `page` are written.
 use Prim.Native.Nat.{_≤_, _-_}
 use mathlib.Core.Path.{_≡_, sym, _∙_}
 use native.Mathlib.Omega.{arith}
@@ -11,16 +11,16 @@ use Rattle.pages.proofs.make_all_unswept.Statement.{statement}
 use Rattle.pages.proofs.make_all_unswept.Tie as tie
 
 abbrev Inv-loop : tie.InvT-loop
-Inv-loop p table₀ g₀ table g = (g ≤ p) × Written 0 g (unsweptPage table₀) table₀ table
+Inv-loop p table₀ page₀ table page = (page ≤ p) × Written 0 page (unsweptPage table₀) table₀ table
 
 abbrev μ-loop : tie.MeasureT-loop
-μ-loop p table₀ g₀ table g = p - g
+μ-loop p table₀ page₀ table page = p - page
 
 loop-holds : tie.Need-loop-holds Inv-loop μ-loop
 loop-holds c = (search needs, none-written _ _ _)
 
-add-g : tie.Need-add-g Inv-loop μ-loop
-add-g c = search needs
+add-page : tie.Need-add-page Inv-loop μ-loop
+add-page c = search needs
 
 owner-requires : tie.Need-owner-requires Inv-loop μ-loop
 owner-requires c κs = search needs
@@ -48,7 +48,7 @@ add-table-2 c =
     let a = x .before .before .before in
     let s = untouched _ _ _ _ _ (l .inv .1) (a .pre .long) (x .loop-test .taken) in
     let o = c .before .before .owner .ensures in
-    omega (arith, s .kinds, a .pre .room (l .g) (x .loop-test .taken) (sym (s .owners) ∙ sym o ∙ c .before .if1 .taken))
+    omega (arith, s .kinds, a .pre .room (l .page) (x .loop-test .taken) (sym (s .owners) ∙ sym o ∙ c .before .if1 .taken))
 
 slice-write-table : tie.Need-slice-write-table Inv-loop μ-loop
 slice-write-table c = search needs
@@ -78,7 +78,7 @@ same-length c = search needs
 returns : tie.Need-returns Inv-loop μ-loop
 returns c =
     let l = c .before .loop in
-    let e : l .g ≡ c .before .before .before .args .p = omega arith in
+    let e : l .page ≡ c .before .before .before .args .p = omega arith in
     rw e at (l .inv .1 .is)
 
 pub make-all-unswept-spec : {M : Type 1} → statement M
@@ -88,7 +88,7 @@ make-all-unswept-spec =
     Inv-loop
     μ-loop
     loop-holds
-    add-g
+    add-page
     owner-requires
     add-if1
     mul-table

@@ -1,0 +1,148 @@
+-- Blocks: the bits of a bitmap word, taken from the lowest on, and what the pointer bits of swept spans come to.
+use Prim.Native.Nat.{ℕ, _+_, _-_, _*_, _/_, _%_, _^_, _<_, _≤_}
+use mathlib.Core.Bool.{Bool, true, false, cond}
+use mathlib.Core.List.{List}
+use mathlib.Core.Logic.{_⊎_, inl, inr, _≢_, _↔_}
+use mathlib.Core.Path.{_≡_, refl, _∙_, ap}
+use native.Mathlib.Nat.{lt-of-not-le}
+use native.Mathlib.Omega.{arith}
+use lib.Count.{trailingZeros}
+use lib.Dec.{T, eqb, ltb}
+use lib.ListN.{getD}
+use lib.Pow.{pow-pos}
+use borrow.Author.Tests.{ltb-true, ltb-false, lt-leb, eqb-true, eqb-false}
+use Rattle.model.specs.Bitmaps.{bitOf, bitAt, withBitOf, allocated, pointer}
+use Rattle.model.specs.Spans.{pageCount, kindEntry, spanOf, elementOf, elementWords}
+use Rattle.model.proofs.Tests.{is-true, of-true, clash}
+use Rattle.model.proofs.Bounded.{First}
+use Rattle.model.proofs.Bitmaps.{bit-below, bit-none, bit-in, bit-inside, word-ext, with-bit-of}
+use Rattle.model.proofs.Spans.{IsSpan, at-home, round, whole}
+use Rattle.model.proofs.Facts.{Reference, bit, keptAt, kept-allocated, swept-all}
+use Rattle.bitmap.proofs.Bits.{trailing-first}
+use Rattle.audit_words.specs.Contents.{Filled, Swept, Block, Blocks, SpanContents, Contents}
+
+-- the lowest bit of a word that is not 0
+module _ (left : ℕ) (fits : left < 2 ^ 64) (some : left ≢ 0) where
+  first : First 64 (λ k. eqb (bitOf left k) 1) (trailingZeros 64 left)
+  first = trailing-first 64 left
+
+  pub low : trailingZeros 64 left < 64
+  low = lt-of-not-le (λ l. some (word-ext 64 left 0 fits (pow-pos 64) (none l)))
+    where
+      none : 64 ≤ trailingZeros 64 left → (k : ℕ) → k < 64 → bitOf left k ≡ bitOf 0 k
+      none l k m = rw bit-none (omega (arith, bit-below left k, eqb-false (bitOf left k) 1 (first .before k (omega arith))))
+
+  pub lowest-on : T (eqb (bitOf left (trailingZeros 64 left)) 1)
+  lowest-on = is-true _ (first .holds low)
+
+  -- without it the lowest is another, higher one
+  pub higher : trailingZeros 64 left < trailingZeros 64 (withBitOf (trailingZeros 64 left) false left)
+  higher = lt-of-not-le (λ l. clash _ (after .holds (below l)) (off (trailingZeros 64 rest) l))
+    where
+      rest : ℕ
+      rest = withBitOf (trailingZeros 64 left) false left
+
+      after : First 64 (λ k. eqb (bitOf rest k) 1) (trailingZeros 64 rest)
+      after = trailing-first 64 rest
+
+      below : trailingZeros 64 rest ≤ trailingZeros 64 left → trailingZeros 64 rest < 64
+      below l = omega (arith, low)
+
+      off : (k : ℕ) → k ≤ trailingZeros 64 left → eqb (bitOf rest k) 1 ≡ false
+      off k l = with-bit-of (trailingZeros 64 left) false left k low (omega (arith, low)) ∙ go (eqb (trailingZeros 64 left) k) refl
+        where
+          go : (c : Bool) → eqb (trailingZeros 64 left) k ≡ c → cond c false (eqb (bitOf left k) 1) ≡ false
+          go true e = refl
+          go false e = first .before k (omega (arith, eqb-false (trailingZeros 64 left) k e))
+
+-- the bits of `pointers` that are not left were taken, and their words hold references
+pub record Taken (p : ℕ) (a t b : List ℕ) (at pointers left : ℕ) : Type 0 where
+  pub among : (j : ℕ) → j < 64 → T (eqb (bitOf left j) 1) → T (eqb (bitOf pointers j) 1)
+  pub done : (j : ℕ) → j < 64 → T (eqb (bitOf pointers j) 1) → T (eqb (bitOf left j) 1) ⊎ Reference p t b (getD a (64 * at + j) 0)
+
+module _ (p : ℕ) (a t b : List ℕ) (at pointers : ℕ) where
+  pub taken-none : Taken p a t b at pointers pointers
+  taken-none = record { among = λ j l x. x; done = λ j l x. inl x }
+
+  pub taken-one : (left : ℕ) (fits : left < 2 ^ 64) (some : left ≢ 0) → Taken p a t b at pointers left →
+      Reference p t b (getD a (64 * at + trailingZeros 64 left) 0) → Taken p a t b at pointers (withBitOf (trailingZeros 64 left) false left)
+  taken-one left fits some H r = record { among = λ j l x. H .among j l (back j (eqb z j) (rw (bits j l) at x)); done = λ j l x. on j l (H .done j l x) }
+    where
+      z : ℕ
+      z = trailingZeros 64 left
+
+      bits : (j : ℕ) → j < 64 → eqb (bitOf (withBitOf z false left) j) 1 ≡ cond (eqb z j) false (eqb (bitOf left j) 1)
+      bits j l = with-bit-of z false left j (low left fits some) l
+
+      back : (j : ℕ) (c : Bool) → T (cond c false (eqb (bitOf left j) 1)) → T (eqb (bitOf left j) 1)
+      back j true x = absurd x
+      back j false x = x
+
+      on : (j : ℕ) → j < 64 → T (eqb (bitOf left j) 1) ⊎ Reference p t b (getD a (64 * at + j) 0) →
+          T (eqb (bitOf (withBitOf z false left) j) 1) ⊎ Reference p t b (getD a (64 * at + j) 0)
+      on j l (inr y) = inr y
+      on j l (inl x) = rw (bits j l) (go (eqb z j) refl)
+        where
+          go : (c : Bool) → eqb z j ≡ c → T (cond c false (eqb (bitOf left j) 1)) ⊎ Reference p t b (getD a (64 * at + j) 0)
+          go true e = inr (rw (eqb-true z j e) at r)
+          go false e = inl x
+
+  pub taken-all : Taken p a t b at pointers 0 → Block p a t b at pointers
+  taken-all H j l x = go (H .done j l x)
+    where
+      go : T (eqb (bitOf 0 j) 1) ⊎ Reference p t b (getD a (64 * at + j) 0) → Reference p t b (getD a (64 * at + j) 0)
+      go (inl y) = absurd (rw (bit-none j) at y)
+      go (inr y) = y
+
+-- the pointer bits of block `at` are one bitmap word
+block-bit : (p : ℕ) (b : List ℕ) (at j : ℕ) → at < 16 * p → j < 64 → bit p pointer b (64 * at + j) ≡ eqb (bitOf (getD b (3 * (16 * p) + at) 0) j) 1
+unfolding bitAt
+block-bit p b at j h l =
+    let d : (3 * (1024 * p) + (64 * at + j)) / 64 ≡ 3 * (16 * p) + at = omega arith in
+    let m : (3 * (1024 * p) + (64 * at + j)) % 64 ≡ j = omega arith in
+    bit-in (1024 * p) pointer b (64 * at + j) (omega arith) ∙ rw (d, m)
+
+module _ (p : ℕ) (a t b : List ℕ) where
+  pub blocks-more : (from k : ℕ) → k < 16 * p → Blocks p a t b from k → Block p a t b k (getD b (3 * (16 * p) + k) 0) → Blocks p a t b from (k + 1)
+  blocks-more from k h B C w l m x = go (ltb w (64 * k)) refl
+    where
+      go : (c : Bool) → ltb w (64 * k) ≡ c → Reference p t b (getD a w 0)
+      go true e = B w l (ltb-true w (64 * k) e) x
+      go false e =
+          let o = ltb-false w (64 * k) e in
+          let z : 64 * k + (w - 64 * k) ≡ w = omega arith in
+          let y : T (bit p pointer b (64 * k + (w - 64 * k))) = rw z x in
+          rw z at (C (w - 64 * k) (omega arith) (rw (block-bit p b k (w - 64 * k) h (omega arith)) at y))
+
+  pub blocks-block : (from to k : ℕ) → from ≤ k → k < to → to ≤ 16 * p → Blocks p a t b from to → Block p a t b k (getD b (3 * (16 * p) + k) 0)
+  blocks-block from to k l m h B j n x = B (64 * k + j) (omega arith) (omega arith) (rw (block-bit p b k j (omega arith) n) x)
+
+module _ (p : ℕ) (a t b : List ℕ) (F : Filled p a t b) where
+  -- in a swept span what is allocated is kept
+  kept-swept : (w : ℕ) → kindEntry t (spanOf t w) < 256 → T (bit p allocated b w) → T (keptAt p t b w)
+  kept-swept w l x = rw (lt-leb 256 (kindEntry t (spanOf t w)) l) x
+
+  -- the pointer words of a swept span
+  pub swept-span : (s : ℕ) → IsSpan t s → kindEntry t s < 256 → Blocks p a t b (16 * s) (16 * s + 16 * pageCount t s) ↔ SpanContents p a t b s
+  swept-span s i k = (there, back)
+    where
+      there : Blocks p a t b (16 * s) (16 * s + 16 * pageCount t s) → SpanContents p a t b s
+      there B w l m x f n y =
+          let E = F .set .element w (kept-allocated (F .set) w x) in
+          let e = at-home (F .spanned .spans) s w i l m .1 in
+          B (w + f) (omega arith) (omega (arith, rw e at (whole (F .spanned .spans) w E .0))) y
+
+      back : SpanContents p a t b s → Blocks p a t b (16 * s) (16 * s + 16 * pageCount t s)
+      back g w l m y =
+          let f = F .set .pointers w y in
+          let e = at-home (F .spanned .spans) s w i (omega arith) (omega arith) .1 in
+          let r = round (F .spanned .spans) w (f .0 .used) in
+          let low : 1024 * s ≤ elementOf t w = rw (← e) (r .0) in
+          let h = at-home (F .spanned .spans) s (elementOf t w) i low (omega (arith, r .1)) .1 in
+          let z : elementOf t w + (w - elementOf t w) ≡ w = omega (arith, r .1) in
+          rw z at (g (elementOf t w) low (omega (arith, r .1)) (kept-swept (elementOf t w) (rw h k) (f .2)) (w - elementOf t w) (omega (arith, r .1, r .2, ap (elementWords t) e)) (rw z y))
+
+  -- .. of all spans, where all are swept
+  pub swept-contents : Swept t → Blocks p a t b 0 (16 * p) ↔ Contents p a t b
+  swept-contents Q =
+      (λ B w y x. B w (omega arith) (omega (arith, bit-inside (1024 * p) pointer b w y)) y, λ C w l m y. C w y (rw (swept-all (F .spanned .spans) Q (spanOf t (elementOf t w))) (F .set .pointers w y .2)))

@@ -1,0 +1,28 @@
+-- Ranges of roots: the slots of a closed stack, two ranges joined, and one more root.
+use Prim.Native.Nat.{ℕ, _+_, _-_, _*_, _<_, _≤_}
+use mathlib.Core.Bool.{Bool, true, false}
+use mathlib.Core.List.{List}
+use mathlib.Core.Logic.{inl}
+use mathlib.Core.Path.{_≡_, refl}
+use native.Mathlib.Omega.{arith}
+use lib.Dec.{ltb}
+use lib.ListN.{getD}
+use borrow.Author.Tests.{ltb-true, ltb-false}
+use Rattle.model.proofs.Facts.{Reference, States}
+use Rattle.audit_words.specs.Contents.{Range}
+
+module _ (p : ℕ) (t b r : List ℕ) where
+  pub range-join : (from k to : ℕ) → Range p t b r from k → Range p t b r k to → Range p t b r from to
+  range-join from k to A B i l m = go (ltb i k) refl
+    where
+      go : (c : Bool) → ltb i k ≡ c → Reference p t b (getD r i 0)
+      go true e = A i l (ltb-true i k e)
+      go false e = B i (ltb-false i k e) m
+
+  pub range-more : (from k : ℕ) → Range p t b r from k → Reference p t b (getD r k 0) → Range p t b r from (k + 1)
+  range-more from k A x = range-join from k (k + 1) A (λ i l m. let z : k ≡ i = omega arith in rw z at x)
+
+  pub closed-range : States r → (s : ℕ) → s < 16 → getD r (544 + s) 0 ≡ 0 → Range p t b r (32 * s) (32 * s + 32)
+  closed-range S s l e i h m =
+      let z : 32 * s + (i - 32 * s) ≡ i = omega arith in
+      inl (rw z at (S .closed s (i - 32 * s) l (omega arith) e))
