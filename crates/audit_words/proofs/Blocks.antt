@@ -15,11 +15,11 @@ use Rattle.model.specs.Bitmaps.{bitOf, bitAt, withBitOf, allocated, pointer}
 use Rattle.model.specs.Spans.{pageCount, kindEntry, spanOf, elementOf, elementWords}
 use Rattle.model.proofs.Tests.{is-true, of-true, clash}
 use Rattle.model.proofs.Bounded.{First}
-use Rattle.model.proofs.Bitmaps.{bit-below, bit-none, bit-in, bit-inside, word-ext, with-bit-of}
+use Rattle.model.proofs.Bitmaps.{bit-below, bit-none, bit-in, word-ext, with-bit-of}
 use Rattle.model.proofs.Spans.{IsSpan, at-home, round, whole}
-use Rattle.model.proofs.Facts.{Reference, bit, keptAt, kept-allocated, swept-all}
+use Rattle.model.proofs.Facts.{Reference, bit, keptAt, kept-allocated}
 use Rattle.bitmap.proofs.Bits.{trailing-first}
-use Rattle.audit_words.specs.Contents.{Filled, Swept, Block, Blocks, SpanContents, Contents}
+use Rattle.audit_words.specs.Contents.{Filled, Block, Blocks, SpanContents}
 
 -- the lowest bit of a word that is not 0
 module _ (left : ℕ) (fits : left < 2 ^ 64) (some : left ≢ 0) where
@@ -122,7 +122,7 @@ module _ (p : ℕ) (a t b : List ℕ) (F : Filled p a t b) where
   kept-swept : (w : ℕ) → kindEntry t (spanOf t w) < 256 → T (bit p allocated b w) → T (keptAt p t b w)
   kept-swept w l x = rw (lt-leb 256 (kindEntry t (spanOf t w)) l) x
 
-  -- the pointer words of a swept span
+  -- .. and each pointer bit belongs to a kept element
   pub swept-span : (s : ℕ) → IsSpan t s → kindEntry t s < 256 → Blocks p a t b (16 * s) (16 * s + 16 * pageCount t s) ↔ SpanContents p a t b s
   swept-span s i k = (there, back)
     where
@@ -141,8 +141,3 @@ module _ (p : ℕ) (a t b : List ℕ) (F : Filled p a t b) where
           let h = at-home (F .spanned .spans) s (elementOf t w) i low (omega (arith, r .1)) .1 in
           let z : elementOf t w + (w - elementOf t w) ≡ w = omega (arith, r .1) in
           rw z at (g (elementOf t w) low (omega (arith, r .1)) (kept-swept (elementOf t w) (rw h k) (f .2)) (w - elementOf t w) (omega (arith, r .1, r .2, ap (elementWords t) e)) (rw z y))
-
-  -- .. of all spans, where all are swept
-  pub swept-contents : Swept t → Blocks p a t b 0 (16 * p) ↔ Contents p a t b
-  swept-contents Q =
-      (λ B w y x. B w (omega arith) (omega (arith, bit-inside (1024 * p) pointer b w y)) y, λ C w l m y. C w y (rw (swept-all (F .spanned .spans) Q (spanOf t (elementOf t w))) (F .set .pointers w y .2)))

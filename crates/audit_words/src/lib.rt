@@ -1,8 +1,8 @@
 // The audit of references: a value is nil or the address of a kept element. Asked of every slot and
 // global, and of the pointer words of every kept element. In a swept span each pointer bit belongs to
 // a kept element, so the words are found by these bits alone, a bitmap word at a time; in an unswept
-// one they are found by the elements that are marked. Outside the sweep phase no span is unswept, and
-// no test reads the page table.
+// one they are found by the elements that are marked. Spans without pointers are passed over. Outside
+// the sweep phase no span is unswept, and a reference is tested by one bit, without the page table.
 ghost use mathlib.Core.Path.{_≡_};
 ghost use mathlib.Core.Logic.{_↔_};
 ghost use Prim.Native.Nat.{ℕ, _+_, _*_, _<_, _≤_};
@@ -227,8 +227,8 @@ fn elements_ok(
 }
 
 // The same, for the span as its entry describes it.
-fn span_ok(p: usize, arena: &[u64], table: &[u32], bits: &[u64], s: usize) -> bool
-    requires { ⌜ Filled p (now arena) (now table) (now bits) × (s < p) × IsSpan (now table) s ⌝ }
+fn span_ok(p: usize, arena: &[u64], table: &[u32], bits: &[u64], swept: bool, s: usize) -> bool
+    requires { ⌜ Filled p (now arena) (now table) (now bits) × Told swept (now table) × (s < p) × IsSpan (now table) s ⌝ }
     ensures { λ r. ⌜ (T r ↔ SpanContents p (now (arena .entry)) (now (table .entry)) (now (bits .entry)) s) ⌝ }
 {
     let kind = pages::kind_entry(table, s);
@@ -240,7 +240,7 @@ fn span_ok(p: usize, arena: &[u64], table: &[u32], bits: &[u64], s: usize) -> bo
             arena,
             table,
             bits,
-            false,
+            swept,
             first,
             first + PAGE_BLOCKS * count,
         );
@@ -262,9 +262,9 @@ fn scans(table: &[u32], s: usize) -> bool
     pages::kind_entry(table, s) % 2 == 0
 }
 
-// So do the pointer words of the kept elements of all spans.
-fn spans_ok(p: usize, arena: &[u64], table: &[u32], bits: &[u64]) -> bool
-    requires { ⌜ Filled p (now arena) (now table) (now bits) ⌝ }
+// Every pointer word of a kept element holds a reference.
+pub fn contents_ok(p: usize, arena: &[u64], table: &[u32], bits: &[u64], swept: bool) -> bool
+    requires { ⌜ Filled p (now arena) (now table) (now bits) × Told swept (now table) ⌝ }
     ensures { λ r. ⌜ (T r ↔ Contents p (now (arena .entry)) (now (table .entry)) (now (bits .entry))) ⌝ }
 {
     let mut s = 0;
@@ -272,21 +272,10 @@ fn spans_ok(p: usize, arena: &[u64], table: &[u32], bits: &[u64]) -> bool
         let at = s;
         s += 1;
         if scans(table, at) {
-            if !span_ok(p, arena, table, bits, at) {
+            if !span_ok(p, arena, table, bits, swept, at) {
                 return false;
             }
         }
     }
     true
-}
-
-// Every pointer word of a kept element holds a reference.
-pub fn contents_ok(p: usize, arena: &[u64], table: &[u32], bits: &[u64], swept: bool) -> bool
-    requires { ⌜ Filled p (now arena) (now table) (now bits) × Told swept (now table) ⌝ }
-    ensures { λ r. ⌜ (T r ↔ Contents p (now (arena .entry)) (now (table .entry)) (now (bits .entry))) ⌝ }
-{
-    if swept {
-        return blocks_ok(p, arena, table, bits, true, 0, PAGE_BLOCKS * p);
-    }
-    spans_ok(p, arena, table, bits)
 }
