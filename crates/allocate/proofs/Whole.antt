@@ -18,7 +18,8 @@ use Rattle.model.specs.Allocate.{freeElement, spanWithRoom, bestRun, roomFor, n
 use Rattle.model.specs.declared.Answer.the-variants.{Value}
 use Rattle.model.proofs.Tests.{of-true}
 use Rattle.model.proofs.Bounded.{first-props}
-use Rattle.model.proofs.Classes.{words-any, takes}
+use Rattle.model.proofs.Classes.{takes}
+use Rattle.model.proofs.Effects.{room-words}
 use Rattle.model.proofs.Spans.{IsSpan, element-fits}
 use Rattle.model.proofs.Facts.{Audited}
 use Rattle.model.proofs.Checks.{allocate-passed}
@@ -34,21 +35,6 @@ searches {h} F = record {
   roots = F .sized .roots;
 }
 
--- a large span has no free element: its one element is allocated
-no-large : {h : Heap} → Audited h → (r : ℕ) → IsSpan (h .table) r → kindEntry (h .table) r % 256 / 2 ≡ 0 → freeElement h r < elements (h .table) r → ⊥
-unfolding freeElement elementsOf
-no-large {h} F r e c l =
-    let f = F .occupied r e in
-    let E = F .bits .element (f .0) (f .1) in
-    let n = rw (f .2, c) at (E .lies .number) in
-    let i = rw (f .2) at (E .first) in
-    let z : elementNumber (h .table) r (f .0) ≡ 0 = omega arith in
-    let one : elements (h .table) r ≡ 1 = rw c in
-    let y : firstBelow (elements (h .table) r) (λ k. not (is allocated h (elementStart (h .table) r k))) ≡ 0 = omega arith in
-    let q = first-props (elements (h .table) r) (λ k. not (is allocated h (elementStart (h .table) r k))) .holds l in
-    let a = not-true (is allocated h (elementStart (h .table) r 0)) (rw y at q) in
-    true≢false (sym (of-true _ (f .1)) ∙ ap (is allocated h) (sym (rw z at i)) ∙ a)
-
 module _ {h : Heap} (F : Audited h) (size p : ℕ) (some : size ≢ 0) (limit : size ≤ 1048576) (pointers : p ≤ size / 8) where
   abbrev old : ℕ
   old = spanWithRoom h (kindOf size p)
@@ -59,11 +45,7 @@ module _ {h : Heap} (F : Audited h) (size p : ℕ) (some : size ≢ 0) (limit : 
   -- the elements of the span that was found have the words that the size takes
   old-words : Suits h (kindOf size p) (spanWithRoom h (kindOf size p)) →
       elementWordsOf (classOf size) (pagesFor size) ≡ elementWords (h .table) (spanWithRoom h (kindOf size p))
-  old-words x =
-      let K = takes size p some limit pointers in
-      let e = x .same in
-      let c : kindEntry (h .table) old % 256 / 2 ≡ classOf size = rw e (omega (arith, K .kind, K .class)) in
-      rw c (words-any (classOf size) (pagesFor size) (pageCount (h .table) old) (λ z. no-large F old (x .span) (c ∙ z) (x .free)))
+  old-words x = room-words F size p (takes size p some limit pointers) old (x .span) (x .same) (x .free)
 
   -- the new element lies in the arena
   pub new-inside : T (roomFor h (kindOf size p) (pagesFor size)) → newWord h (kindOf size p) (pagesFor size) + elementWordsOf (classOf size) (pagesFor size) ≤ 1024 * h .pages

@@ -10,9 +10,8 @@ use lib.ListN.{getD}
 use borrow.Author.Tests.{leb-true, leb-false, lt-ltb, le-ltb}
 use Rattle.model.specs.Bounded.{allBelow}
 use Rattle.model.specs.Bitmaps.{bitOf, bitAt, Part, allocated, marked, gray, pointer, place}
-use Rattle.model.proofs.Bitmaps.{bit-none, bit-in}
+use Rattle.model.proofs.Bitmaps.{bit-none, bit-in, bit-shifted, bit-all}
 use Rattle.model.proofs.Facts.{bit}
-use Rattle.bitmap.proofs.Bits.{bit-shifted, bit-all}
 use Rattle.audit_blocks.specs.Block.{on}
 use Rattle.audit_blocks.proofs.Masks.{on-or, on-not, zero-word, not-or, all-cong}
 use Rattle.audit_bits.specs.Rules.{bare}

@@ -5,11 +5,10 @@ use mathlib.Core.Path.{_≡_, refl}
 use native.Mathlib.Omega.{arith}
 use lib.Bits.{bitOr, bitAnd}
 use lib.Dec.{T, eqb, eqb·suc-zero}
-use lib.Pow.{field, mod-mod-pow}
 use borrow.Author.Tests.{eq-eqb, ne-eqb, eqb-true, eqb-false}
 use Rattle.model.specs.Bounded.{_implies_, allBelow}
 use Rattle.model.specs.Bitmaps.{bitOf}
-use Rattle.model.proofs.Bitmaps.{bit-zero, bit-suc, bit-below, bit-or, bit-and, bit-not, bit-none, word-ext}
+use Rattle.model.proofs.Bitmaps.{bit-zero, bit-suc, bit-below, bit-or, bit-and, bit-not, bit-none, bit-mod, word-ext}
 use Rattle.model.proofs.Tests.{same-test, of-false, eqb-iff}
 use Rattle.model.proofs.Bounded.{all-iff}
 use Rattle.audit_blocks.specs.Block.{on}
@@ -39,16 +38,9 @@ on-not a j h l = rw (bit-not 64 a j h l) (go (eqb (bitOf a j) 1) refl)
     go true p = ne-eqb (1 - bitOf a j) 1 (omega (arith, eqb-true (bitOf a j) 1 p))
     go false p = eq-eqb (1 - bitOf a j) 1 (omega (arith, eqb-false (bitOf a j) 1 p, bit-below a j))
 
--- the low bits of a number
-bit-mod : (n a j : ℕ) → j < n → bitOf (a % 2 ^ n) j ≡ bitOf a j
-bit-mod n a j l = let e : n ≡ n - j - 1 + 1 + j = omega arith in rw e (low (n - j - 1))
-  where
-    low : (m : ℕ) → bitOf (a % 2 ^ (m + 1 + j)) j ≡ bitOf a j
-    low m = unfold bitOf in rw (field a (m + 1) j) (mod-mod-pow (a / 2 ^ j) m 1)
-
 -- a word shifted up by one bit
 pub on-shift : (a j : ℕ) → j < 64 → on (a * 2 ^ 1 % 2 ^ 64) j ≡ cond (eqb j 0) false (on a (j - 1))
-on-shift a j l = rw (bit-mod 64 (a * 2 ^ 1) j l) (shifted j)
+on-shift a j l = rw (bit-mod (a * 2 ^ 1) 64 j l) (shifted j)
   where
     shifted : (j : ℕ) → on (a * 2 ^ 1) j ≡ cond (eqb j 0) false (on a (j - 1))
     shifted zero = rw (bit-zero) (ne-eqb (a * 2 ^ 1 % 2) 1 (omega arith))

@@ -14,7 +14,7 @@ use Rattle.model.specs.Bitmaps.{bitOf, bitAt}
 use Rattle.model.specs.Bounded.{firstBelow}
 use Rattle.model.proofs.Bounded.{first-is}
 use Rattle.bitmap.specs.Starts.{Starts}
-use Rattle.bitmap.proofs.Bits.{bit-shifted}
+use Rattle.model.proofs.Bitmaps.{bit-shifted}
 use Rattle.bitmap.proofs.Scan.{Word, None, Passed, word-at, word-not, word-and, scan, whole-word, both}
 
 -- whole elements further on the offset is the same

@@ -13,7 +13,7 @@ use borrow.Author.Tests.{leb-true, leb-false, le-leb, lt-leb}
 use Rattle.model.specs.Bitmaps.{bitOf, bitAt}
 use Rattle.model.specs.Bounded.{firstBelow}
 use Rattle.model.proofs.Bounded.{first-is}
-use Rattle.bitmap.proofs.Bits.{bit-shifted, bit-all}
+use Rattle.model.proofs.Bitmaps.{bit-shifted, bit-all}
 use Rattle.bitmap.proofs.Scan.{Word, None, Passed, word-at, word-and, scan, both}
 
 -- the mask has the bits from `from` on in word number `at`, which is the word of `from` or one after it

@@ -5,12 +5,10 @@ use mathlib.Core.Bool.{Bool, true, false, cond}
 use mathlib.Core.List.{List}
 use mathlib.Core.Path.{_≡_, refl, sym, _∙_, ap}
 use native.Mathlib.Omega.{arith}
-use native.Mathlib.Nat.{pow-suc, add-assoc, not-suc-le-zero, sub-zero}
+use native.Mathlib.Nat.{pow-suc, add-assoc, not-suc-le-zero}
 use native.Mathlib.Numerals.{one-add}
 use lib.ListN.{getD, set, length}
 use lib.Seq.{ext-getD, getD-set-same, set-getD, set-set}
-use lib.Bits.{shifted-half, shifted-even}
-use lib.Pow.{pow-pos, shl-shr, shr-shr}
 use lib.Count.{ones, onesIn, ones-step}
 use lib.Dec.{eqb, ltb, leb}
 use borrow.Author.Tests.{ltb-true, ltb-false, ne-eqb, eqb-true, eqb-false, eq-eqb}
@@ -20,7 +18,7 @@ use Rattle.model.specs.Bitmaps.{bitOf, withBitOf, bitAt, withBit}
 use Rattle.model.proofs.Tests.{same-test, leb-iff, ltb-iff}
 use Rattle.model.proofs.Bounded.{within, within-true, run-ok, run-read, count-cong, fold-keeps}
 use Rattle.model.proofs.Words.{set-at, words-at, words-length}
-use Rattle.model.proofs.Bitmaps.{bit-zero, bit-suc, bit-below, bit-none, bit-not, word-ext, with-bit-of, with-bit-fits, with-length, with-at}
+use Rattle.model.proofs.Bitmaps.{bit-zero, bit-suc, bit-below, bit-none, word-ext, with-bit-of, with-bit-fits, with-length, with-at}
 use Rattle.bitrange.proofs.Runs.{count-append}
 
 -- bits of a word
@@ -71,20 +69,6 @@ module _ (b n : ℕ) (g : ℕ → Bool) (w : ℕ) (h : b + n ≤ 64) (f : w < 2 
   word-run-at =
       run-read (λ x. x < 2 ^ 64) 64 (λ x k. eqb (bitOf x k) 1) withBitOf true (λ y. y) (λ i y x l o. with-bit-fits i y x l o)
       (λ i y x l o k. with-bit-at i y x l o k) b n g w h f
-
--- the bits of a word that is shifted up by b
-pub bit-above : (w b k : ℕ) → bitOf (w * 2 ^ b) (b + k) ≡ bitOf w k
-unfolding bitOf
-bit-above w b k = rw (← shr-shr (w * 2 ^ b) b k, shl-shr w b)
-
-pub bit-under : (w b k : ℕ) → k < b → bitOf (w * 2 ^ b) k ≡ 0
-bit-under w zero k h = absurd (not-suc-le-zero h)
-bit-under w (suc b) zero h = bit-zero (w * 2 ^ suc b) ∙ shifted-even w b
-bit-under w (suc b) (suc k) h = rw (bit-suc (w * 2 ^ suc b) k, shifted-half w b) (bit-under w b k (omega arith))
-
--- the bits of a word of n bits that are all on
-pub bit-ones : (n k : ℕ) → k < n → bitOf (2 ^ n - 1) k ≡ 1
-bit-ones n k h = ap (λ w. bitOf w k) (sym (sub-zero (2 ^ n - 1))) ∙ bit-not n 0 k (pow-pos n) h ∙ rw (bit-none k)
 
 -- how many bits of a word of n bits are on
 pub ones-count : (n w : ℕ) → w < 2 ^ n → ones w ≡ countBelow n (λ k. eqb (bitOf w k) 1)

@@ -10,14 +10,14 @@ use lib.ListN.{getD, set, length}
 use lib.Bits.{bitOr, bitAnd, or-lt, and-le-l}
 use lib.Pow.{pow-mono, shl-lt, shl-exact, ones-lt, ones-split, high}
 use lib.Dec.{eqb, ltb, leb}
-use borrow.Author.Tests.{ltb-true, ltb-false, leb-true, leb-false, ne-eqb, eqb-true, eqb-false, eq-eqb}
+use borrow.Author.Tests.{ltb-true, ltb-false, leb-true, le-leb, ne-eqb, eqb-true, eqb-false, eq-eqb}
 use Rattle.model.specs.Bounded.{writeRun}
 use Rattle.model.specs.Memory.{putWords}
 use Rattle.model.specs.Bitmaps.{bitOf, withBitOf, bitAt, withBit}
 use Rattle.model.proofs.Bounded.{within}
-use Rattle.model.proofs.Bitmaps.{bit-below, bit-or, bit-and, bit-none, bit-not}
+use Rattle.model.proofs.Bitmaps.{bit-below, bit-or, bit-and, bit-none, bit-not, bit-up, bit-all}
 use Rattle.bitrange.proofs.Runs.{run-append, run-cong}
-use Rattle.bitrange.proofs.Bits.{Fit, words-same, bit-high, bit-above, bit-under, bit-ones, word-run-fits, word-run-at, bits-length, bits-fit, run-in-word, words-as-bits}
+use Rattle.bitrange.proofs.Bits.{Fit, words-same, bit-high, word-run-fits, word-run-at, bits-length, bits-fit, run-in-word, words-as-bits}
 
 -- masks
 
@@ -40,17 +40,17 @@ pub mask-at : (b n k : ℕ) → eqb (bitOf (maskOf b n) k) 1 ≡ within b n k
 mask-at b n k = go (leb b k) refl (ltb k (b + n)) refl
   where
     above : b ≤ k → bitOf (maskOf b n) k ≡ bitOf (2 ^ n - 1) (k - b)
-    above h = let e : k ≡ b + (k - b) = omega arith in ap (bitOf (maskOf b n)) e ∙ bit-above (2 ^ n - 1) b (k - b)
+    above h = rw (bit-up (2 ^ n - 1) b k, le-leb b k h)
 
     go : (p : Bool) → leb b k ≡ p → (q : Bool) → ltb k (b + n) ≡ q → eqb (bitOf (maskOf b n) k) 1 ≡ (p && q)
     go true e true f =
         let h : b ≤ k = leb-true b k e in
         let l : k - b < n = omega (arith, ltb-true k (b + n) f) in
-        eq-eqb _ _ (above h ∙ bit-ones n (k - b) l)
+        eq-eqb _ _ (above h ∙ bit-all n (k - b) l)
     go true e false f =
         let h : b ≤ k = leb-true b k e in
         rw (above h, bit-high n (2 ^ n - 1) (k - b) (ones-lt n) (omega (arith, ltb-false k (b + n) f)))
-    go false e q f = rw (bit-under (2 ^ n - 1) b k (leb-false b k e))
+    go false e q f = rw (bit-up (2 ^ n - 1) b k, e)
 
 -- a word with a mask put over it, or taken away, is the word after the run of the mask's bits
 pub put-mask : (on : Bool) (b n w : ℕ) → b + n ≤ 64 → w < 2 ^ 64 →
@@ -91,7 +91,7 @@ fill-bits on a n ws h f =
     fits false = omega arith
 
     bits : (b : Bool) (k : ℕ) → k < 64 → eqb (bitOf (cond b (2 ^ 64 - 1) 0) k) 1 ≡ b
-    bits true k l = rw (bit-ones 64 k l)
+    bits true k l = rw (bit-all 64 k l)
     bits false k l = rw (bit-none k)
 
 -- a run of words that are copied

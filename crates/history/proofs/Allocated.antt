@@ -16,10 +16,10 @@ use Rattle.model.specs.Spans.{owner, pageCount, kindEntry, isFree, elementWords
 use Rattle.model.specs.Allocate.{freeElement, hasRoom, spanWithRoom, runLength, isRun, isShortest, bestRun, roomFor, newWord, newTable}
 use Rattle.model.proofs.Tests.{of-true, is-true, and-iff}
 use Rattle.model.proofs.Bounded.{first-props}
-use Rattle.model.proofs.Classes.{Takes, words-any}
+use Rattle.model.proofs.Classes.{Takes}
 use Rattle.model.proofs.Table.{pages-length}
 use Rattle.model.proofs.Spans.{Spans, IsSpan}
-use Rattle.model.proofs.Effects.{room-is}
+use Rattle.model.proofs.Effects.{room-is, room-words}
 use Rattle.model.proofs.Facts.{Sized, Audited, Bits, Phases, References, Reference, bit, scanAt, unsweptAt, keptAt, kept-allocated}
 use Rattle.history.proofs.Tables.{Chosen, Vacant, like-scan, like-words, like-element, carve-spans, carve-bits, carve-like, carve-unswept, carve-chosen, which, new-entry, used-same}
 use Rattle.history.proofs.Taken.{taken, taken-kept}
@@ -149,21 +149,6 @@ module _ {h : Heap} (F : Audited h) {r n kind : ℕ} (Q : Vacant (h .pages) (h .
       like : (v : ℕ) → T (is allocated h v) → Rattle.history.proofs.Tables.Like t u v
       like v a = carve-like (F .sized .table) (F .spans) Q v (F .bits .element v a .lies .used)
 
--- a large span has no free element
-no-large : {h : Heap} → Audited h → (r : ℕ) → IsSpan (h .table) r → kindEntry (h .table) r % 256 / 2 ≡ 0 → freeElement h r < elements (h .table) r → ⊥
-unfolding freeElement elementsOf
-no-large {h} F r e c l =
-    let f = F .occupied r e in
-    let E = F .bits .element (f .0) (f .1) in
-    let n = rw (f .2, c) at (E .lies .number) in
-    let i = rw (f .2) at (E .first) in
-    let z : elementNumber (h .table) r (f .0) ≡ 0 = omega arith in
-    let one : elements (h .table) r ≡ 1 = rw c in
-    let y : firstBelow (elements (h .table) r) (λ k. not (is allocated h (elementStart (h .table) r k))) ≡ 0 = omega arith in
-    let q = first-props (elements (h .table) r) (λ k. not (is allocated h (elementStart (h .table) r k))) .holds l in
-    let a = not-true (is allocated h (elementStart (h .table) r 0)) (rw y at q) in
-    true≢false (sym (of-true _ (f .1)) ∙ ap (is allocated h) (sym (rw z at i)) ∙ a)
-
 -- "the swept span of this kind with the lowest start page that has a free element"
 found : {h : Heap} → Audited h → (size p : ℕ) → Takes size p → (r : ℕ) → T (hasRoom h (kindOf size p) r) →
     Chosen (h .pages) (h .table) (h .bits) r (freeElement h r) p × (elementWordsOf (classOf size) (pagesFor size) ≡ elementWords (h .table) r)
@@ -171,9 +156,7 @@ found {h} F size p K r ok =
     let x = room-is h (kindOf size p) r ok in
     let span = x .0 in
     let e = x .1 in
-    let c : kindEntry (h .table) r % 256 / 2 ≡ classOf size = rw e (omega (arith, K .kind, K .class)) in
-    let big : classOf size ≢ 0 = λ z. no-large F r span (c ∙ z) (x .2) in
-    let w : elementWordsOf (classOf size) (pagesFor size) ≡ elementWords (h .table) r = rw c (words-any (classOf size) (pagesFor size) (pageCount (h .table) r) big) in (
+    let w = room-words F size p K r span e (x .2) in (
       record {
         span = span;
         swept = rw e (omega (arith, K .kind));

@@ -18,6 +18,7 @@ use Rattle.model.specs.Memory.{Heap, withArena, withRoots, setRoot, slotAt, pha
 use Rattle.model.specs.Bitmaps.{allocated, marked, gray, pointer, is}
 use Rattle.model.specs.Spans.{isFree, elementWords, spanOf}
 use Rattle.model.specs.Cycle.{scan}
+use Rattle.model.proofs.Tests.{eqb-shift}
 use Rattle.model.proofs.Words.{set-at}
 use Rattle.model.proofs.Facts.{Audited, bit, scanAt, unsweptAt}
 use Rattle.history.proofs.Roots.{root-at, root-other, started, started-at, started-low, started-state}
@@ -112,13 +113,6 @@ states-same t l k f = fun-ext (λ s. go s (ltb s 16) refl)
     go : (s : ℕ) (p : Bool) → ltb s 16 ≡ p → (p && t (getD l (544 + s) 0)) ≡ (p && t (getD k (544 + s) 0))
     go s true e = ap t (f (544 + s) (omega arith) (omega (arith, ltb-true s 16 e)))
     go s false e = refl
-
-pub eqb-shift : (a x g : ℕ) → eqb (a + x) (a + g) ≡ eqb x g
-eqb-shift a x g = go (eqb x g) refl
-  where
-    go : (b : Bool) → eqb x g ≡ b → eqb (a + x) (a + g) ≡ b
-    go true e = eq-eqb (a + x) (a + g) (omega (arith, eqb-true x g e))
-    go false e = ne-eqb (a + x) (a + g) (λ p. eqb-false x g e (omega arith))
 
 -- .. after one state became v
 pub state-set : (f : ℕ → Bool) (l : List ℕ) (s v : ℕ) (b : Bool) → length l ≡ 562 → s < 16 → f v ≡ b → states f (set l (544 + s) v) ≡ update (states f l) s b

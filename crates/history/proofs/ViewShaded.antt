@@ -17,6 +17,7 @@ use Rattle.model.specs.Spans.{pointerCount}
 use Rattle.model.specs.Shading.{shade, shadeAll, barrier}
 use Rattle.model.specs.Records.{emptied}
 use Rattle.model.specs.Cycle.{scan, scanRecord}
+use Rattle.model.proofs.Tests.{eqb-shift}
 use Rattle.model.proofs.Bounded.{within, within-yes, within-low, within-high}
 use Rattle.model.proofs.Words.{set-at, words-at, words-length}
 use Rattle.model.proofs.Bitmaps.{Four, samePart, part-at, part-length}
@@ -146,7 +147,7 @@ store-global-view {h} F g v l k o = heap-eq refl
     (slots-same r (h .roots) (λ x b. rest x (omega arith)))
     (fun-ext (λ x. rw (
       set-at (h .roots) (512 + g) v (omega (arith, F .sized .roots)) (512 + x),
-      Rattle.history.proofs.View.eqb-shift 512 x g,
+      eqb-shift 512 x g,
       update-is (globalsOf (h .roots)) g v x,
     ) (glob x (eqb x g) refl)))
     (states-same (λ x. not (eqb x 0)) r (h .roots) (λ x b c. rest x (omega arith)))

@@ -7,15 +7,15 @@ use mathlib.Core.Logic.{_≢_}
 use mathlib.Core.Path.{_≡_, refl, sym, _∙_, ap}
 use native.Mathlib.Omega.{arith}
 use native.Mathlib.Numerals.{one-add}
-use native.Mathlib.Nat.{pow-suc, div-one, not-suc-le-zero}
+use native.Mathlib.Nat.{pow-suc, div-one, mul-one, sub-zero, suc-sub-suc, not-suc-le-zero}
 use lib.ListN.{getD, set, length, length-set}
-use lib.Bits.{bitOr, bitAnd, or-step, and-step, or-shr, and-shr, or-lt, and-lt}
-use lib.Pow.{shr-shr, pow-lt}
-use lib.Dec.{T, eqb, ltb, eqb·zero-suc, eqb·suc-zero, eqb·suc-suc, ltb→lt}
+use lib.Bits.{bitOr, bitAnd, or-step, and-step, or-shr, and-shr, or-lt, and-lt, shifted-half, shifted-even}
+use lib.Pow.{shr-shr, pow-lt, pow-pos, field, mod-mod-pow}
+use lib.Dec.{T, eqb, ltb, leb, eqb·zero-suc, eqb·suc-zero, eqb·suc-suc, leb·zero, leb·suc-zero, leb·suc-suc, ltb→lt}
 use borrow.Author.Tests.{ltb-true, ltb-false, eq-eqb, ne-eqb, eqb-true, eqb-false}
 use Rattle.model.specs.Bounded.{writeRun}
 use Rattle.model.specs.Bitmaps.{bitOf, withBitOf, bitAt, withBit, Part, allocated, marked, gray, pointer, place, bitIn, putBit, putBits}
-use Rattle.model.proofs.Tests.{and-iff}
+use Rattle.model.proofs.Tests.{and-iff, eqb-shift}
 use Rattle.model.proofs.Bounded.{within, run-ok, run-read}
 use Rattle.model.proofs.Words.{set-at}
 
@@ -60,6 +60,28 @@ bit-not (suc n) w zero h l = rw (bit-zero, bit-zero, pow-suc) (omega (arith, rw 
 bit-not (suc n) w (suc k) h l =
     let e : ((2 ^ suc n - 1) - w) / 2 ≡ (2 ^ n - 1) - w / 2 = rw pow-suc (omega (arith, rw pow-suc at h)) in
     rw (bit-suc ((2 ^ suc n - 1) - w) k, e, bit-suc w k) (bit-not n (w / 2) k (omega (arith, rw pow-suc at h)) (omega arith))
+
+-- the bits below n of a number
+pub bit-mod : (w n k : ℕ) → k < n → bitOf (w % 2 ^ n) k ≡ bitOf w k
+unfolding bitOf
+bit-mod w n k h =
+    let d = n - suc k in
+    let e : n ≡ (d + 1) + k = omega arith in
+    ap (λ i. w % 2 ^ i / 2 ^ k % 2) e ∙ rw (field w (d + 1) k) (mod-mod-pow (w / 2 ^ k) d 1)
+
+-- the bits of a number moved up
+pub bit-up : (w k j : ℕ) → bitOf (w * 2 ^ k) j ≡ cond (leb k j) (bitOf w (j - k)) 0
+bit-up w zero j = rw (leb·zero, mul-one, sub-zero)
+bit-up w (suc k) zero = rw (leb·suc-zero, bit-zero) (shifted-even w k)
+bit-up w (suc k) (suc j) = rw (leb·suc-suc, bit-suc, shifted-half, suc-sub-suc) (bit-up w k j)
+
+-- .. and of a word of n bits, which loses what is moved past its top
+pub bit-shifted : (w n k j : ℕ) → j < n → bitOf (w * 2 ^ k % 2 ^ n) j ≡ cond (leb k j) (bitOf w (j - k)) 0
+bit-shifted w n k j h = bit-mod (w * 2 ^ k) n j h ∙ bit-up w k j
+
+-- every bit of the highest word of n bits is set
+pub bit-all : (n k : ℕ) → k < n → bitOf (2 ^ n - 1) k ≡ 1
+bit-all n k h = ap (λ w. bitOf w k) (sym (sub-zero (2 ^ n - 1))) ∙ bit-not n 0 k (pow-pos n) h ∙ ap (λ b. 1 - b) (bit-none k)
 
 -- words of n bits that agree in each bit are equal
 pub word-ext : (n a b : ℕ) → a < 2 ^ n → b < 2 ^ n → ((k : ℕ) → k < n → bitOf a k ≡ bitOf b k) → a ≡ b
@@ -147,13 +169,6 @@ place-fits n allocated w ws h f = omega arith
 place-fits n marked w ws h f = omega arith
 place-fits n gray w ws h f = omega arith
 place-fits n pointer w ws h f = omega arith
-
-eqb-shift : (a f g : ℕ) → eqb (a + f) (a + g) ≡ eqb f g
-eqb-shift a f g = go (eqb f g) refl
-  where
-    go : (b : Bool) → eqb f g ≡ b → eqb (a + f) (a + g) ≡ b
-    go true p = eq-eqb (a + f) (a + g) (omega (arith, eqb-true f g p))
-    go false p = ne-eqb (a + f) (a + g) (λ q. eqb-false f g p (omega arith))
 
 -- two places are one place only in one part and at one word
 pub place-eq : (n : ℕ) (q r : Part) (w v : ℕ) → w < n → v < n → eqb (place n q w) (place n r v) ≡ (samePart q r && eqb w v)

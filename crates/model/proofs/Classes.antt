@@ -43,11 +43,11 @@ large-class : (size : ℕ) → ltb 32768 size ≡ true → classOf size ≡ 0
 unfolding classOf
 large-class size e = rw e
 
-large-pages : (size : ℕ) → classOf size ≡ 0 → pagesFor size ≡ (size + 8191) / 8192
+pub large-pages : (size : ℕ) → classOf size ≡ 0 → pagesFor size ≡ (size + 8191) / 8192
 unfolding pagesFor
 large-pages size c = rw c
 
-small-pages : (size : ℕ) → classOf size ≢ 0 → pagesFor size ≡ classPages (classOf size)
+pub small-pages : (size : ℕ) → classOf size ≢ 0 → pagesFor size ≡ classPages (classOf size)
 unfolding pagesFor
 small-pages size d = rw (ne-eqb (classOf size) 0 d)
 
@@ -94,6 +94,43 @@ small-class size l = record { low = omega (arith, is); high = omega (arith, is, 
         go true e = ltb-true (firstBelow 66 (λ k. size ≤? elementBytes (k + 1))) 66 e
         go false e = absurd (omega (arith, leb-false size (elementBytes 66) (f .before 65 (omega (arith, ltb-false (firstBelow 66 (λ k. size ≤? elementBytes (k + 1))) 66 e))), last-row))
 
+pub class-within : (size : ℕ) → classOf size ≤ 66
+class-within size = go (ltb 32768 size) refl
+  where
+    go : (b : Bool) → ltb 32768 size ≡ b → classOf size ≤ 66
+    go true e = rw (large-class size e) (omega arith)
+    go false e = small-class size (ltb-false 32768 size e) .high
+
+-- a size has class 0 only where it is too large for the others
+pub class-zero : (size : ℕ) → classOf size ≡ 0 → 32768 < size
+class-zero size h = go (ltb 32768 size) refl
+  where
+    go : (b : Bool) → ltb 32768 size ≡ b → 32768 < size
+    go true e = ltb-true 32768 size e
+    go false e = absurd (small-class size (ltb-false 32768 size e) .low h)
+
+pub kind-within : (size p : ℕ) → kindOf size p < 134
+unfolding kindOf
+kind-within size p = go (eqb p 0)
+  where
+    go : (b : Bool) → 2 * classOf size + cond b 1 0 < 134
+    go true = omega (arith, class-within size)
+    go false = omega (arith, class-within size)
+
+-- the span that a size gets
+pub size-fits : (size : ℕ) → size ≤ 1048576 → Fits (classOf size) (pagesFor size)
+size-fits size l = go (ltb 32768 size) refl
+  where
+    go : (b : Bool) → ltb 32768 size ≡ b → Fits (classOf size) (pagesFor size)
+    go true e =
+        let h = ltb-true 32768 size e in
+        let c = large-class size e in
+        let n = large-pages size c in
+        rw c (large-fits (pagesFor size) (omega arith) (omega arith))
+    go false e =
+        let s = small-class size (ltb-false 32768 size e) in
+        rw (small-pages size (s .low)) (small-fits (classOf size) (s .low) (s .high))
+
 -- what an accepted size and number of pointers take: the class, its kind and the pages of a new span
 pub record Takes (size p : ℕ) : Type 0 where
   pub kind : kindOf size p < 134
@@ -130,7 +167,7 @@ takes size p d l m = go (ltb 32768 size) refl
           kind = rw (kind 0 c) (k .0);
           class = rw (kind 0 c, c) (k .1);
           scan = rw (kind 0 c) (scan 0 (k .2));
-          fits = rw c (large-fits (pagesFor size) (omega arith) (omega arith));
+          fits = size-fits size l;
           pages = (λ _. (omega arith, omega arith), λ z. absurd (z c));
           pointers = rw (c, large-words (pagesFor size)) (omega arith);
         }
@@ -142,7 +179,7 @@ takes size p d l m = go (ltb 32768 size) refl
           kind = rw (kind (classOf size) refl) (k .0);
           class = rw (kind (classOf size) refl) (k .1);
           scan = rw (kind (classOf size) refl) (scan (classOf size) (k .2));
-          fits = rw n (small-fits (classOf size) (s .low) (s .high));
+          fits = size-fits size l;
           pages = (λ z. absurd (s .low z), λ _. n);
           pointers = rw (small-words (classOf size) (pagesFor size) (s .low)) (omega (arith, s .bytes));
         }

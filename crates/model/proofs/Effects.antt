@@ -1,27 +1,31 @@
 -- What the calls leave, part by part: the barrier, a birth, a sweep step, the span that has room, an allocation, a start and a scan. Demand 3 cites
 -- these laws; a wrong rule breaks one of them (proofs/Tempting.antt says which fact about words it loses).
-use Prim.Native.Nat.{ℕ, _+_, _-_, _*_, _%_, _<_, _≤_}
-use mathlib.Core.Bool.{Bool, true, false, cond, _&&_}
+use Prim.Native.Nat.{ℕ, _+_, _-_, _*_, _/_, _%_, _<_, _≤_}
+use mathlib.Core.Bool.{Bool, true, false, not, cond, _&&_, true≢false}
 use mathlib.Core.List.{List}
-use mathlib.Core.Path.{_≡_, refl, _∙_}
+use mathlib.Core.Path.{_≡_, refl, sym, _∙_, ap}
 use native.Mathlib.Omega.{arith}
 use lib.ListN.{length, set}
 use lib.Dec.{T, eqb}
+use borrow.Author.Tests.{not-true}
+use Rattle.model.specs.Bounded.{firstBelow}
 use Rattle.model.specs.Memory.{Heap, lent, withRoots, putWords, root, slot, slotAt, stateAt, addressOf, phase}
 use Rattle.model.specs.Answers.{outcome, _orElse_}
 use Rattle.model.specs.Checks.{phaseRefusal, openRefusal}
-use Rattle.model.specs.Classes.{classOf, kindOf, pagesFor, elementWordsOf}
+use Rattle.model.specs.Classes.{classOf, kindOf, pagesFor, elementsOf, elementWordsOf}
 use Rattle.model.specs.declared.Answer.the-variants.{Done, Value}
 use Rattle.model.specs.Bitmaps.{Part, allocated, marked, pointer, is, putBit, putBits}
-use Rattle.model.specs.Spans.{pageCount, kindEntry, elements, elementStart, elementNumber, freePage, spanPage, putPage, putPages}
+use Rattle.model.specs.Spans.{pageCount, kindEntry, elements, elementWords, elementStart, elementNumber, freePage, spanPage, putPage, putPages}
 use Rattle.model.specs.Shading.{shade, barrier}
 use Rattle.model.specs.Allocate.{freeElement, hasRoom, newBits, newTable, newWord, allocateRefusal, allocate}
 use Rattle.model.specs.Cycle.{sweptBits, sweptTable, nothingLeft, start, scanStack, scanOutcome}
+use Rattle.model.proofs.Tests.{of-true}
 use Rattle.model.proofs.Rules.{tests}
-use Rattle.model.proofs.Bounded.{within}
+use Rattle.model.proofs.Bounded.{within, first-props}
 use Rattle.model.proofs.Bitmaps.{Four, samePart, part-at, part-run, part-length, run-length}
+use Rattle.model.proofs.Classes.{Takes, words-any}
 use Rattle.model.proofs.Spans.{IsSpan, startIn}
-use Rattle.model.proofs.Facts.{Sized, bit, four}
+use Rattle.model.proofs.Facts.{Sized, Audited, bit, four}
 
 -- the barrier: in the mark phase the old value is shaded, then the new; in any other nothing is
 pub barrier-is : (h : Heap) (old new : ℕ) →
@@ -136,6 +140,28 @@ swept-table h s = refl
 -- a span with room for a kind: its entry is the kind, with no flag, and an element is free
 pub room-is : (h : Heap) (kind s : ℕ) → T (hasRoom h kind s) → IsSpan (h .table) s × (kindEntry (h .table) s ≡ kind) × (freeElement h s < elements (h .table) s)
 room-is h kind s ok = let x = simp tests at ok in (x .0 .0, x .0 .1, x .1)
+
+-- a large span has no free element: its one element is allocated
+no-large : {h : Heap} → Audited h → (r : ℕ) → IsSpan (h .table) r → kindEntry (h .table) r % 256 / 2 ≡ 0 → freeElement h r < elements (h .table) r → ⊥
+unfolding freeElement elementsOf
+no-large {h} F r e c l =
+    let f = F .occupied r e in
+    let E = F .bits .element (f .0) (f .1) in
+    let n = rw (f .2, c) at (E .lies .number) in
+    let i = rw (f .2) at (E .first) in
+    let z : elementNumber (h .table) r (f .0) ≡ 0 = omega arith in
+    let one : elements (h .table) r ≡ 1 = rw c in
+    let y : firstBelow (elements (h .table) r) (λ k. not (is allocated h (elementStart (h .table) r k))) ≡ 0 = omega arith in
+    let q = first-props (elements (h .table) r) (λ k. not (is allocated h (elementStart (h .table) r k))) .holds l in
+    let a = not-true (is allocated h (elementStart (h .table) r 0)) (rw y at q) in
+    true≢false (sym (of-true _ (f .1)) ∙ ap (is allocated h) (sym (rw z at i)) ∙ a)
+
+-- the elements of a span of the kind, if one is free, have the words that the size takes
+pub room-words : {h : Heap} → Audited h → (size p : ℕ) → Takes size p → (r : ℕ) → IsSpan (h .table) r → kindEntry (h .table) r ≡ kindOf size p →
+    freeElement h r < elements (h .table) r → elementWordsOf (classOf size) (pagesFor size) ≡ elementWords (h .table) r
+room-words {h} F size p K r i e l =
+    let c : kindEntry (h .table) r % 256 / 2 ≡ classOf size = rw e (omega (arith, K .kind, K .class)) in
+    rw c (words-any (classOf size) (pagesFor size) (pageCount (h .table) r) (λ z. no-large F r i (c ∙ z) l))
 
 -- an allocation, a start and a scan of a stack, written out
 pub allocate-is : (h : Heap) (s i size p : ℕ) →

@@ -1,11 +1,11 @@
 -- Tests as facts: `T b` says that the test b holds, and the ruleset `tests` turns a chain of tests into a product of facts and back.
-use Prim.Native.Nat.{ℕ, zero, suc, _≤_, _<_}
+use Prim.Native.Nat.{ℕ, zero, suc, _+_, _≤_, _<_}
 use mathlib.Core.Bool.{Bool, true, false, not, cond, _&&_, _||_, true≢false}
 use mathlib.Core.Logic.{_⊎_, inl, inr, _≢_, _↔_}
 use mathlib.Core.Path.{_≡_, refl, ap, sym, _∙_}
 use native.Mathlib.Omega.{arith}
 use lib.Dec.{T, eqb, ltb, leb, eqb→eq, ltb→lt, leb→le, nltb→le, nleb→lt}
-use borrow.Author.Tests.{lt-ltb, le-ltb, le-leb, lt-leb, eq-eqb, ne-eqb, eqb-false}
+use borrow.Author.Tests.{lt-ltb, le-ltb, le-leb, lt-leb, eq-eqb, ne-eqb, eqb-true, eqb-false}
 use Rattle.model.specs.Bounded.{_implies_}
 
 pub is-true : (b : Bool) → b ≡ true → T b
@@ -64,6 +64,14 @@ implies-iff false b = (λ t s. absurd s, λ f. tt)
 
 pub eqb-iff : (a b : ℕ) → T (eqb a b) ↔ (a ≡ b)
 eqb-iff a b = (eqb→eq a b, λ e. is-true _ (eq-eqb a b e))
+
+-- numbers moved by the same are equal where they were
+pub eqb-shift : (a f g : ℕ) → eqb (a + f) (a + g) ≡ eqb f g
+eqb-shift a f g = go (eqb f g) refl
+  where
+    go : (b : Bool) → eqb f g ≡ b → eqb (a + f) (a + g) ≡ b
+    go true p = eq-eqb (a + f) (a + g) (omega (arith, eqb-true f g p))
+    go false p = ne-eqb (a + f) (a + g) (λ q. eqb-false f g p (omega arith))
 
 pub neqb-iff : (a b : ℕ) → T (not (eqb a b)) ↔ (a ≢ b)
 neqb-iff a b = (λ t. eqb-false a b (of-false _ t), λ d. is-true _ (ap not (ne-eqb a b d)))

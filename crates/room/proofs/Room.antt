@@ -18,7 +18,7 @@ use Rattle.model.proofs.Bounded.{first-props}
 use Rattle.model.proofs.Rules.{tests}
 use Rattle.model.proofs.Spans.{IsSpan, element-fits}
 use Rattle.model.proofs.Checks.{passes}
-use Rattle.classes.proofs.Rows.{size-shape}
+use Rattle.model.proofs.Classes.{size-fits}
 use Rattle.spans.specs.Needs.{Searchable, Span}
 use Rattle.room.specs.Needs.{Found}
 
@@ -91,4 +91,4 @@ module _ (h : Heap) (s i size q : ℕ) where
 
 -- a size that passed has pages
 pub size-pages : (size q : ℕ) → sizeRefusal size q ≡ 0 → 0 < pagesFor size
-size-pages size q e = let x = simp passes at e in size-shape size (x .0 .1) .pages
+size-pages size q e = let x = simp passes at e in size-fits size (x .0 .1) .pages

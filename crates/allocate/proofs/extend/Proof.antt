@@ -6,7 +6,7 @@ use mir.Val.{Fits}
 use borrow.Author.Tests.{not-true, not-false}
 use borrow.Author.Needs.{needs}
 use Rattle.model.specs.Classes.{kindOf}
-use Rattle.classes.proofs.Rows.{kind-within}
+use Rattle.model.proofs.Classes.{kind-within}
 use Rattle.allocate.proofs.extend.Statement.{statement}
 use Rattle.allocate.proofs.extend.Tie as tie
 

@@ -1,7 +1,7 @@
 -- `allocate::zero_element` meets its contract.
 use native.Mathlib.Omega.{arith}
 use borrow.Author.Needs.{needs}
-use Rattle.classes.proofs.Rows.{class-within, size-shape}
+use Rattle.model.proofs.Classes.{class-within, size-fits}
 use Rattle.allocate.proofs.zero_element.Statement.{statement}
 use Rattle.allocate.proofs.zero_element.Tie as tie
 
@@ -14,7 +14,7 @@ pages-for-requires c κs = search needs
 element-words-requires : tie.Need-element-words-requires
 element-words-requires c κs =
     let s = c .before .before .before in
-    (rw (c .before .class-of .ensures) (class-within (s .args .size)), rw (c .pages-for .ensures) (omega (arith, size-shape (s .args .size) (s .pre .0) .few)))
+    (rw (c .before .class-of .ensures) (class-within (s .args .size)), rw (c .pages-for .ensures) (omega (arith, size-fits (s .args .size) (s .pre .0) .short)))
 
 zero-part-requires : tie.Need-zero-part-requires
 zero-part-requires c κs =

@@ -3,7 +3,7 @@ use native.Mathlib.Omega.{arith}
 use borrow.Author.Needs.{needs}
 use borrow.Author.Tests.{eq-eqb, ne-eqb}
 use Rattle.model.specs.Classes.{kindOf}
-use Rattle.classes.proofs.Rows.{class-within}
+use Rattle.model.proofs.Classes.{class-within}
 use Rattle.classes.proofs.kind_of.Statement.{statement}
 use Rattle.classes.proofs.kind_of.Tie as tie
 

@@ -1,11 +1,11 @@
 -- `classes::pages_for` meets its contract. A size of class 0 is above the largest of the others, so that it is not 0, and one page more than its
 -- whole pages but for its last byte is the size rounded up.
-use Prim.Native.Nat.{_<_}
+use mathlib.Core.Logic.{_≢_}
 use mathlib.Core.Path.{_≡_}
 use native.Mathlib.Omega.{arith}
 use borrow.Author.Needs.{needs}
 use Rattle.model.specs.Classes.{classOf}
-use Rattle.classes.proofs.Rows.{class-within, class-zero, pages-large, pages-small}
+use Rattle.model.proofs.Classes.{class-within, class-zero, large-pages, small-pages}
 use Rattle.classes.proofs.pages_for.Statement.{statement}
 use Rattle.classes.proofs.pages_for.Tie as tie
 
@@ -22,7 +22,7 @@ returns : tie.Need-returns
 returns c =
     let size = c .before .before .args .size in
     let z : classOf size ≡ 0 = omega (arith, c .before .class-of .ensures) in
-    omega (arith, class-zero size z, pages-large size z)
+    omega (arith, class-zero size z, large-pages size z)
 
 class-pages-requires : tie.Need-class-pages-requires
 class-pages-requires c κs = (omega arith, omega (arith, c .before .class-of .ensures, class-within (c .before .before .args .size)))
@@ -30,8 +30,8 @@ class-pages-requires c κs = (omega arith, omega (arith, c .before .class-of .en
 returns-2 : tie.Need-returns-2
 returns-2 c =
     let size = c .before .before .before .args .size in
-    let p : 0 < classOf size = omega (arith, c .before .before .class-of .ensures) in
-    rw (pages-small size p, c .class-pages .ensures, c .before .before .class-of .ensures)
+    let d : classOf size ≢ 0 = λ z. omega (arith, c .before .before .class-of .ensures) in
+    rw (small-pages size d, c .class-pages .ensures, c .before .before .class-of .ensures)
 
 pub pages-for-spec : {M : Type 1} → statement M
 pages-for-spec =
