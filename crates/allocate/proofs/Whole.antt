@@ -1,6 +1,6 @@
 -- The whole call: where the new element lies, the table with its span, and what meets the outcome.
-use Prim.Native.Nat.{ℕ, _+_, _*_, _/_, _%_, _<_, _≤_}
-use mathlib.Core.Bool.{Bool, true, false, cond, not, _||_, true≢false}
+use Prim.Native.Nat.{ℕ, _+_, _*_, _/_, _<_, _≤_}
+use mathlib.Core.Bool.{Bool, true, false, cond, not, _||_}
 use mathlib.Core.List.{List}
 use mathlib.Core.Logic.{_≢_}
 use mathlib.Core.Path.{_≡_, refl, sym, _∙_, ap}
@@ -8,19 +8,15 @@ use native.Mathlib.Nat.{mul-le-mul-right}
 use native.Mathlib.Omega.{arith}
 use lib.Dec.{T, ltb, ltb→lt}
 use borrow.Author.Tests.{ltb-true, not-true}
-use Rattle.model.specs.Bounded.{firstBelow}
 use Rattle.model.specs.Memory.{Heap, pageOf, slotAt}
 use Rattle.model.specs.Answers.{Meets, numbers}
-use Rattle.model.specs.Bitmaps.{allocated, is}
-use Rattle.model.specs.Classes.{classOf, kindOf, pagesFor, elementsOf, elementWordsOf}
-use Rattle.model.specs.Spans.{pageCount, kindEntry, elements, elementWords, elementStart, elementNumber, putPages, spanPage}
+use Rattle.model.specs.Classes.{classOf, kindOf, pagesFor, elementWordsOf}
+use Rattle.model.specs.Spans.{elementWords, elementStart, putPages, spanPage}
 use Rattle.model.specs.Allocate.{freeElement, spanWithRoom, bestRun, roomFor, newWord, newTable, allocateRefusal, allocate}
 use Rattle.model.specs.declared.Answer.the-variants.{Value}
-use Rattle.model.proofs.Tests.{of-true}
-use Rattle.model.proofs.Bounded.{first-props}
 use Rattle.model.proofs.Classes.{takes}
 use Rattle.model.proofs.Effects.{room-words}
-use Rattle.model.proofs.Spans.{IsSpan, element-fits}
+use Rattle.model.proofs.Spans.{element-fits}
 use Rattle.model.proofs.Facts.{Audited}
 use Rattle.model.proofs.Checks.{allocate-passed}
 use Rattle.pages.proofs.Allocate.{best-fits}

@@ -1,6 +1,5 @@
 // What the trace program writes: the bytes of an answer, or of a line that does not read. Each
 // function writes into a lent buffer from a place on and answers the place after the last byte.
-ghost use mathlib.Core.Path.{_≡_};
 ghost use Prim.Native.Nat.{_+_, _≤_, _<_};
 ghost use mathlib.Core.List.{[], _∷_};
 ghost use lib.ListN.{length};

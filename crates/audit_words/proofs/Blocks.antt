@@ -13,7 +13,7 @@ use lib.Pow.{pow-pos}
 use borrow.Author.Tests.{ltb-true, ltb-false, lt-leb, eqb-true, eqb-false}
 use Rattle.model.specs.Bitmaps.{bitOf, bitAt, withBitOf, allocated, pointer}
 use Rattle.model.specs.Spans.{pageCount, kindEntry, spanOf, elementOf, elementWords}
-use Rattle.model.proofs.Tests.{is-true, of-true, clash}
+use Rattle.model.proofs.Tests.{is-true, clash}
 use Rattle.model.proofs.Bounded.{First}
 use Rattle.model.proofs.Bitmaps.{bit-below, bit-none, bit-in, word-ext, with-bit-of}
 use Rattle.model.proofs.Spans.{IsSpan, at-home, round, whole}

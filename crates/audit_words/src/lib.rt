@@ -5,7 +5,7 @@
 // the sweep phase no span is unswept, and a reference is tested by one bit, without the page table.
 ghost use mathlib.Core.Path.{_≡_};
 ghost use mathlib.Core.Logic.{_↔_};
-ghost use Prim.Native.Nat.{ℕ, _+_, _*_, _<_, _≤_};
+ghost use Prim.Native.Nat.{_+_, _*_, _<_, _≤_};
 ghost use lib.Dec.{T};
 ghost use lib.ListN.{length};
 ghost use Rattle.model.specs.Memory.{maxPages, pageWords, entryNumbers, rootWords, firstGlobal};

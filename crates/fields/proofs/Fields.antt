@@ -1,18 +1,18 @@
 -- The fields of a record in audited buffers: its pointer words end where the first pointer bit is off, and no pointer bit stands behind it in the
 -- element. So one bit tells what a field is.
-use Prim.Native.Nat.{ℕ, _+_, _-_, _*_, _/_, _%_, _<_, _≤_}
+use Prim.Native.Nat.{ℕ, _+_, _-_, _*_, _/_, _<_, _≤_}
 use mathlib.Core.Bool.{Bool, true, false, not, _||_, or-false, or-true}
 use mathlib.Core.List.{List}
 use mathlib.Core.Logic.{_≢_}
 use mathlib.Core.Path.{_≡_, refl, sym, _∙_, ap}
 use native.Mathlib.Omega.{arith}
-use lib.Dec.{T, eqb, ltb, leb}
-use lib.ListN.{length, getD}
+use lib.Dec.{T, ltb, leb}
+use lib.ListN.{getD}
 use borrow.Author.Tests.{ltb-true, ltb-false, lt-ltb, le-ltb, lt-leb, le-leb, not-true, not-false}
 use Rattle.model.specs.Bounded.{firstBelow}
 use Rattle.model.specs.Memory.{Heap, wordOf}
 use Rattle.model.specs.Bitmaps.{bitIn, bitAt, pointer}
-use Rattle.model.specs.Spans.{spanOf, elementWords, kindEntry, pageCount}
+use Rattle.model.specs.Spans.{spanOf, elementWords}
 use Rattle.model.proofs.Tests.{clash}
 use Rattle.model.proofs.Bounded.{first-props}
 use Rattle.model.proofs.Spans.{span-of, whole}

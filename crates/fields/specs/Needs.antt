@@ -4,10 +4,8 @@ use mathlib.Core.List.{List}
 use mathlib.Core.Path.{_≡_}
 use lib.ListN.{length, getD}
 use Rattle.model.specs.Memory.{Heap, lent, maxPages, pageWords, entryNumbers, rootWords, stacks, slots, firstState, pageOf, slotAt, recordOf}
-use Rattle.model.specs.Answers.{Outcome, Meets}
 use Rattle.model.specs.Spans.{spanOf, classAt, pageCount}
 use Rattle.model.specs.Classes.{rows}
-use Rattle.model.specs.declared.Answer.{Answer}
 use Rattle.model.proofs.Spans.{Spans, Element}
 use Rattle.model.proofs.Facts.{Bits, Reference}
 use Rattle.shading.specs.Needs.{Tables}

@@ -1,5 +1,4 @@
 -- What setup comes to, for buffers of wrong lengths and of right ones.
-use Prim.Native.Nat.{ℕ}
 use mathlib.Core.Bool.{Bool, true, false, not}
 use mathlib.Core.Logic.{_↔_}
 use mathlib.Core.Path.{_≡_, refl}

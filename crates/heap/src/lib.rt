@@ -2,7 +2,6 @@
 // is out of range: the entry check comes first (the lengths, then the audit), then the audited call,
 // which is lent only the buffers that it needs. The contracts say what each call answers and leaves
 // for every input, by the model's `run`.
-ghost use mathlib.Core.Path.{_≡_};
 ghost use Rattle.model.specs.Memory.{lent};
 ghost use Rattle.model.specs.Answers.{Meets};
 ghost use Rattle.model.specs.Calls.{run, Setup, Audit, Open, Close, Allocate, Copy, Clear, Load, Store, Put, Get};

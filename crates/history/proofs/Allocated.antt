@@ -1,9 +1,9 @@
 -- Where a record goes: the element or the pages that the allocation finds suit it (`choice`), and to take them keeps the audit.
 use Prim.Native.Nat.{ℕ, _+_, _-_, _/_, _%_, _<_, _≤_}
 use mathlib.Core.List.{List}
-use mathlib.Core.Bool.{Bool, true, false, not, cond, _||_, true≢false}
+use mathlib.Core.Bool.{Bool, true, false, not, cond, _||_}
 use mathlib.Core.Logic.{_⊎_, inl, inr, _≢_}
-use mathlib.Core.Path.{_≡_, refl, ap, sym, _∙_}
+use mathlib.Core.Path.{_≡_, refl, sym, _∙_}
 use native.Mathlib.Omega.{arith}
 use lib.ListN.{getD}
 use lib.Dec.{T, eqb, ltb, leb, ltb→lt, leb→le}
@@ -11,10 +11,10 @@ use borrow.Author.Tests.{ltb-true, eqb-true, not-true}
 use Rattle.model.specs.Bounded.{firstBelow}
 use Rattle.model.specs.Memory.{Heap, withTable, wordOf, phase, state, firstWord}
 use Rattle.model.specs.Bitmaps.{allocated, is}
-use Rattle.model.specs.Classes.{classOf, kindOf, pagesFor, elementWordsOf, elementsOf}
-use Rattle.model.specs.Spans.{owner, pageCount, kindEntry, isFree, elementWords, elements, elementStart, elementNumber, spanOf, elementOf, putPages, spanPage}
+use Rattle.model.specs.Classes.{classOf, kindOf, pagesFor, elementWordsOf}
+use Rattle.model.specs.Spans.{owner, kindEntry, isFree, elementWords, elements, elementStart, spanOf, elementOf, putPages, spanPage}
 use Rattle.model.specs.Allocate.{freeElement, hasRoom, spanWithRoom, runLength, isRun, isShortest, bestRun, roomFor, newWord, newTable}
-use Rattle.model.proofs.Tests.{of-true, is-true, and-iff}
+use Rattle.model.proofs.Tests.{is-true, and-iff}
 use Rattle.model.proofs.Bounded.{first-props}
 use Rattle.model.proofs.Classes.{Takes}
 use Rattle.model.proofs.Table.{pages-length}

@@ -1,26 +1,26 @@
 -- The audit's test and the facts that it stands for: `audit-facts` from the test to `Audited`, `facts-audit` back. Between them stand the facts of
 -- one page, one word, one stack, as the test says them.
-use Prim.Native.Nat.{ℕ, zero, suc, _+_, _-_, _*_, _/_, _%_, _<_, _≤_}
-use mathlib.Core.Bool.{Bool, true, false, not, cond, _&&_, _||_, true≢false}
+use Prim.Native.Nat.{ℕ, _+_, _-_, _*_, _/_, _%_, _<_, _≤_}
+use mathlib.Core.Bool.{Bool, true, false, _&&_, true≢false}
 use mathlib.Core.List.{List}
 use mathlib.Core.Logic.{_⊎_, inl, inr, _≢_, _↔_, Iff·rfl}
-use mathlib.Core.Path.{_≡_, refl, sym, _∙_, ap}
+use mathlib.Core.Path.{_≡_, refl, sym, _∙_}
 use native.Mathlib.Omega.{arith}
-use lib.ListN.{getD, length, List·getD-eq-default}
-use lib.Dec.{T, eqb, ltb, leb}
+use lib.ListN.{length, List·getD-eq-default}
+use lib.Dec.{T, eqb, ltb}
 use borrow.Author.Tests.{ltb-true, ltb-false, eqb-true, eqb-false}
-use Rattle.model.specs.Bounded.{allBelow, someBelow}
+use Rattle.model.specs.Bounded.{someBelow}
 use Rattle.model.specs.Memory.{Heap, goodBuffers, words, state, globalsState, phase, root, word, slot, wordOf, addressOf}
 use Rattle.model.specs.Classes.{classPages}
 use Rattle.model.specs.Bitmaps.{Part, allocated, marked, gray, pointer, is}
-use Rattle.model.specs.Spans.{owner, pageCount, kindEntry, isScan, isUnswept, kindAt, classAt, spanOf, elementOf, elementNumber, elements, elementStart, kept}
-use Rattle.model.specs.Audit.{goodKind, goodFirst, goodPage, goodWord, goodStack, goodStates, goodRoot, isReference, audit}
+use Rattle.model.specs.Spans.{owner, pageCount, kindEntry, kindAt, classAt, spanOf, elementOf, elementNumber, elements, elementStart, kept}
+use Rattle.model.specs.Audit.{goodKind, goodFirst, goodPage, goodWord, goodStack, goodStates, isReference, audit}
 use Rattle.model.proofs.Tests.{of-true, and-iff, or-iff, eqb-iff, leb-iff}
 use Rattle.model.proofs.Bounded.{some-iff}
 use Rattle.model.proofs.Bitmaps.{bit-inside}
 use Rattle.model.proofs.Rules.{tests, else-iff}
-use Rattle.model.proofs.Spans.{Spans, IsSpan, GoodEntry, InElement, Element, span-of, in-span, at-home, element-at, element-word, entry-fits, fits}
-use Rattle.model.proofs.Facts.{Sized, Bits, Phases, References, Reference, States, Occupied, Audited, bit, scanAt, unsweptAt, keptAt}
+use Rattle.model.proofs.Spans.{Spans, IsSpan, GoodEntry, element-word, entry-fits, fits}
+use Rattle.model.proofs.Facts.{Sized, Reference, Audited}
 
 -- the buffers' lengths
 

@@ -2,21 +2,20 @@
 -- is after one bit was set, and after a run of them.
 use Prim.Native.Nat.{ℕ, zero, suc, _+_, _-_, _*_, _/_, _%_, _^_, _<_, _≤_, min, max}
 use mathlib.Core.List.{List}
-use mathlib.Core.Bool.{Bool, true, false, not, cond, _&&_}
-use mathlib.Core.Logic.{_≢_}
+use mathlib.Core.Bool.{Bool, true, false, cond, _&&_}
 use mathlib.Core.Path.{_≡_, refl, sym, _∙_, ap}
 use native.Mathlib.Omega.{arith}
 use native.Mathlib.Numerals.{one-add}
 use native.Mathlib.Nat.{pow-suc, div-one, mul-one, sub-zero, suc-sub-suc, not-suc-le-zero}
-use lib.ListN.{getD, set, length, length-set}
-use lib.Bits.{bitOr, bitAnd, or-step, and-step, or-shr, and-shr, or-lt, and-lt, shifted-half, shifted-even}
+use lib.ListN.{getD, length, length-set}
+use lib.Bits.{bitOr, bitAnd, or-step, and-step, or-shr, and-shr, or-lt, shifted-half, shifted-even}
 use lib.Pow.{shr-shr, pow-lt, pow-pos, field, mod-mod-pow}
 use lib.Dec.{T, eqb, ltb, leb, eqb·zero-suc, eqb·suc-zero, eqb·suc-suc, leb·zero, leb·suc-zero, leb·suc-suc, ltb→lt}
 use borrow.Author.Tests.{ltb-true, ltb-false, eq-eqb, ne-eqb, eqb-true, eqb-false}
 use Rattle.model.specs.Bounded.{writeRun}
 use Rattle.model.specs.Bitmaps.{bitOf, withBitOf, bitAt, withBit, Part, allocated, marked, gray, pointer, place, bitIn, putBit, putBits}
 use Rattle.model.proofs.Tests.{and-iff, eqb-shift}
-use Rattle.model.proofs.Bounded.{within, run-ok, run-read}
+use Rattle.model.proofs.Bounded.{within, run-read}
 use Rattle.model.proofs.Words.{set-at}
 
 -- bits of a word

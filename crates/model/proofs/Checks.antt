@@ -1,20 +1,20 @@
 -- What a chain of checks that gives 0 has passed. The ruleset `passes` turns any chain into a product of facts and back; the chains that several
 -- calls share have their product stated here.
-use Prim.Native.Nat.{ℕ, zero, suc, _+_, _*_, _/_, _<_, _≤_}
-use mathlib.Core.Bool.{Bool, true, false, not, cond, _&&_, _||_}
-use mathlib.Core.Logic.{_≢_, _↔_, Iff·rfl, _⊎_, inl, inr}
-use mathlib.Core.Path.{_≡_, refl, sym, _∙_, ap}
+use Prim.Native.Nat.{ℕ, _/_, _<_, _≤_}
+use mathlib.Core.Bool.{Bool, true, false, not, cond, _&&_}
+use mathlib.Core.Logic.{_≢_, _↔_, _⊎_, inl, inr}
+use mathlib.Core.Path.{_≡_, refl, sym, _∙_}
 use native.Mathlib.Omega.{arith}
-use lib.Dec.{T, eqb, ltb, leb}
-use borrow.Author.Tests.{eqb-true, eqb-false, eq-eqb, ltb-true, ltb-false}
+use lib.Dec.{T, eqb, ltb}
+use borrow.Author.Tests.{eqb-true, eqb-false, ltb-true, ltb-false}
 use Rattle.model.specs.Bounded.{allBelow, someBelow}
-use Rattle.model.specs.Memory.{Heap, goodBuffers, words, state, phase, slot, globalsState, sweep}
+use Rattle.model.specs.Memory.{Heap, goodBuffers, words, state, phase, slot, globalsState}
 use Rattle.model.specs.Answers.{_given_, _orElse_}
 use Rattle.model.specs.Bitmaps.{is, gray}
 use Rattle.model.specs.Spans.{elementWords, spanOf, pointerCount}
-use Rattle.model.specs.Checks.{slotRefusal, slotsRefusal, globalRefusal, pointerRefusal, numberRefusal, sizeRefusal, recordAt, openRefusal, closedRefusal, phaseRefusal}
+use Rattle.model.specs.Checks.{slotRefusal, slotsRefusal, globalRefusal, pointerRefusal, numberRefusal, recordAt, openRefusal}
 use Rattle.model.specs.Audit.{audit}
-use Rattle.model.specs.Allocate.{roomFor, roomRefusal, allocateRefusal, someUnswept, spanWithRoom, bestRun}
+use Rattle.model.specs.Allocate.{roomFor, roomRefusal, allocateRefusal, someUnswept}
 use Rattle.model.specs.Classes.{kindOf, pagesFor}
 use Rattle.model.specs.Cycle.{firstGray, finishRefusal}
 use Rattle.model.specs.Calls.{entry}

@@ -1,14 +1,14 @@
 -- The class table: what its 66 rows have in common, found by one computed test, and what a size that is accepted takes.
-use Prim.Native.Nat.{ℕ, zero, suc, _+_, _-_, _*_, _/_, _%_, _<_, _≤_}
-use mathlib.Core.Bool.{Bool, true, false, _&&_, not, cond}
-use mathlib.Core.Logic.{_≢_, _⊎_, inl, inr}
-use mathlib.Core.Path.{_≡_, refl, sym, _∙_, ap}
+use Prim.Native.Nat.{ℕ, _+_, _-_, _*_, _/_, _%_, _<_, _≤_}
+use mathlib.Core.Bool.{Bool, true, false, _&&_, cond}
+use mathlib.Core.Logic.{_≢_}
+use mathlib.Core.Path.{_≡_, refl, sym}
 use native.Mathlib.Omega.{arith}
-use lib.Dec.{T, eqb, ltb, leb}
-use borrow.Author.Tests.{ltb-true, ltb-false, eqb-true, eqb-false, eq-eqb, ne-eqb, lt-ltb, le-ltb, leb-true, leb-false, le-leb}
-use Rattle.model.specs.Bounded.{_==_, _<?_, _≤?_, allBelow, firstFrom, firstBelow}
+use lib.Dec.{eqb, ltb}
+use borrow.Author.Tests.{ltb-true, ltb-false, eqb-true, eqb-false, ne-eqb, lt-ltb, le-ltb, leb-true, leb-false}
+use Rattle.model.specs.Bounded.{_==_, _<?_, _≤?_, allBelow, firstBelow}
 use Rattle.model.specs.Classes.{classRows, elementBytes, spanBytes, classOf, elementsOf, elementWordsOf, classPages, pagesFor, kindOf}
-use Rattle.model.proofs.Tests.{is-true, of-true}
+use Rattle.model.proofs.Tests.{is-true}
 use Rattle.model.proofs.Bounded.{all-at, first-props, First}
 use Rattle.model.proofs.Rules.{tests}
 

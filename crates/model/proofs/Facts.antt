@@ -1,21 +1,21 @@
 -- What an audit that says yes says, as facts: small records, each over only what it reads, so that a call that changes one buffer keeps the
 -- others by name. `Audited` joins them; proofs/Audit.antt turns the test into them and back.
-use Prim.Native.Nat.{ℕ, zero, suc, _+_, _-_, _*_, _/_, _%_, _<_, _≤_}
-use mathlib.Core.Bool.{Bool, true, false, not, cond, _&&_, true≢false}
+use Prim.Native.Nat.{ℕ, zero, suc, _+_, _-_, _*_, _<_, _≤_}
+use mathlib.Core.Bool.{Bool, true, false, not, cond, true≢false}
 use mathlib.Core.List.{List}
 use mathlib.Core.Logic.{_⊎_, inl, inr, _≢_}
-use mathlib.Core.Path.{_≡_, refl, sym, _∙_, ap}
+use mathlib.Core.Path.{_≡_, refl, sym, _∙_}
 use native.Mathlib.Omega.{arith}
 use lib.ListN.{getD, length}
 use lib.Dec.{T, eqb, ltb, leb}
-use borrow.Author.Tests.{ltb-true, lt-leb, leb-true}
+use borrow.Author.Tests.{ltb-true, lt-leb}
 use Rattle.model.specs.Memory.{Heap, wordOf, addressOf}
 use Rattle.model.specs.Bitmaps.{Part, allocated, marked, gray, pointer, bitIn, is}
-use Rattle.model.specs.Spans.{owner, pageCount, kindEntry, isScan, isUnswept, spanOf, elementOf, elements, elementStart, elementWords, pointerCount, kept}
-use Rattle.model.proofs.Tests.{of-true, of-false, is-true}
-use Rattle.model.proofs.Bounded.{First, first-props, first-is}
+use Rattle.model.specs.Spans.{owner, kindEntry, isScan, isUnswept, spanOf, elementOf, elementWords, pointerCount, kept}
+use Rattle.model.proofs.Tests.{of-true, is-true}
+use Rattle.model.proofs.Bounded.{first-props}
 use Rattle.model.proofs.Bitmaps.{Four, bit-inside}
-use Rattle.model.proofs.Spans.{Spans, IsSpan, InElement, Element, span-of, at-home, in-span, own-word, whole}
+use Rattle.model.proofs.Spans.{Spans, IsSpan, InElement, Element, own-word}
 
 -- the four lengths, and P
 pub record Sized (h : Heap) : Type 0 where

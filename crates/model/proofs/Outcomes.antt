@@ -6,7 +6,7 @@ use mathlib.Core.List.{List}
 use mathlib.Core.Logic.{_≢_}
 use mathlib.Core.Path.{_≡_, refl, sym, subst}
 use lib.Dec.{eqb}
-use borrow.Author.Tests.{eq-eqb, ne-eqb}
+use borrow.Author.Tests.{ne-eqb}
 use Rattle.model.specs.Memory.{Heap, lent}
 use Rattle.model.specs.Answers.{_orElse_, Outcome, outcome, Meets}
 use Rattle.model.specs.Calls.{entry, audited}

@@ -1,10 +1,9 @@
 -- Named lists of laws for `simp`: a chain of tests becomes a product of facts in one step, and a product of facts a chain of tests.
-use Prim.Native.Nat.{ℕ}
 use mathlib.Core.Bool.{Bool, true, false, not, cond, _||_}
 use mathlib.Core.Logic.{_↔_}
 use lib.Dec.{T}
 use Rattle.model.proofs.Tests.{and-iff, nor-iff, not-not-iff, implies-iff, eqb-iff, neqb-iff, ltb-iff, nltb-iff, leb-iff, nleb-iff}
-use Rattle.model.proofs.Bounded.{all-iff, some-iff}
+use Rattle.model.proofs.Bounded.{all-iff}
 
 -- a choice between two tests
 pub cond-iff : (b x y : Bool) → T (cond b x y) ↔ ((T b → T x) × (T (not b) → T y))

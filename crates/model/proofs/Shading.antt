@@ -1,19 +1,18 @@
 -- Laws of shading: what each part of the bitmaps is after one value was shaded, and after many. Every value must be nil or the address of a word
 -- of the arena (`There`).
-use Prim.Native.Nat.{ℕ, zero, suc, _+_, _-_, _*_, _/_, _%_, _<_, _≤_}
+use Prim.Native.Nat.{ℕ, zero, suc, _-_, _*_, _<_}
 use mathlib.Core.Bool.{Bool, true, false, not, cond, _&&_, _||_, or-true, or-false, and-false, and-true}
 use mathlib.Core.List.{List}
-use mathlib.Core.Logic.{_≢_}
-use mathlib.Core.Path.{_≡_, refl, sym, _∙_, ap}
+use mathlib.Core.Path.{_≡_, refl, sym, _∙_}
 use native.Mathlib.Omega.{arith}
 use lib.ListN.{length}
-use lib.Dec.{T, eqb, ltb}
+use lib.Dec.{eqb}
 use borrow.Author.Tests.{eqb-true, eqb-false}
 use Rattle.model.specs.Bounded.{foldBelow}
 use Rattle.model.specs.Memory.{wordOf}
-use Rattle.model.specs.Bitmaps.{Part, allocated, marked, gray, pointer, bitIn, putBit}
+use Rattle.model.specs.Bitmaps.{Part, marked, gray, putBit}
 use Rattle.model.specs.Spans.{isScan, spanOf}
-use Rattle.model.specs.Shading.{shade, shadeAll, isWhite}
+use Rattle.model.specs.Shading.{shade, shadeAll}
 use Rattle.model.proofs.Bitmaps.{Four, samePart, part-at, part-length}
 use Rattle.model.proofs.Facts.{bit, scanAt, There}
 

@@ -1,18 +1,17 @@
 -- Where things lie. `Spans` is what the audit says of a page table of P pages; from it follow: the span and the element that a word lies in,
 -- and that spans and elements do not overlap. The arithmetic that multiplies two unknowns stands in the first section alone.
-use Prim.Native.Nat.{ℕ, zero, suc, _+_, _-_, _*_, _/_, _%_, _<_, _≤_}
-use mathlib.Core.Bool.{Bool, true, false, not, cond, _&&_}
+use Prim.Native.Nat.{ℕ, _+_, _-_, _*_, _/_, _%_, _<_, _≤_}
+use mathlib.Core.Bool.{Bool, true, false}
 use mathlib.Core.List.{List}
 use mathlib.Core.Logic.{_⊎_, inl, inr, _≢_}
 use mathlib.Core.Path.{_≡_, refl, sym, _∙_, ap}
 use native.Mathlib.Omega.{arith}
 use native.Mathlib.Nat.{mul-le-mul-right, suc-mul, div-add-mod', mod-lt}
 use lib.Arith.{digits-div}
-use lib.ListN.{getD, length}
-use lib.Dec.{T, eqb, ltb}
+use lib.Dec.{eqb, ltb}
 use borrow.Author.Tests.{ltb-true, ltb-false, eqb-true, eqb-false}
-use Rattle.model.specs.Classes.{elementWordsOf, elementsOf, classPages}
-use Rattle.model.specs.Spans.{owner, pageCount, kindEntry, elementWords, elements, elementStart, elementNumber, spanOf, elementOf, inElement, startsElement}
+use Rattle.model.specs.Classes.{classPages}
+use Rattle.model.specs.Spans.{owner, pageCount, kindEntry, elementWords, elements, elementStart, elementNumber, spanOf, elementOf}
 use Rattle.model.proofs.Classes.{Fits, small-fits, large-fits}
 
 -- the first word of the element, of the span at page s, that word v lies in

@@ -1,5 +1,5 @@
 -- Laws of the page table: what is read after one entry was written, and after a run of them.
-use Prim.Native.Nat.{ℕ, zero, suc, _+_, _-_, _*_, _/_, _<_, _≤_}
+use Prim.Native.Nat.{ℕ, _+_, _-_, _*_, _<_, _≤_}
 use mathlib.Core.List.{List}
 use mathlib.Core.Bool.{Bool, true, false, cond, _&&_}
 use mathlib.Core.Path.{_≡_, refl, sym, _∙_, ap}
@@ -8,7 +8,6 @@ use native.Mathlib.Omega.{arith}
 use lib.ListN.{getD, set, length, length-set}
 use lib.Dec.{eqb}
 use borrow.Author.Tests.{eq-eqb, ne-eqb, eqb-true, eqb-false}
-use Rattle.model.specs.Bounded.{writeRun}
 use Rattle.model.specs.Spans.{owner, pageCount, kindEntry, Entry, putPage, putPages}
 use Rattle.model.proofs.Bounded.{within, run-ok, run-read}
 use Rattle.model.proofs.Words.{set-at}

@@ -1,6 +1,6 @@
 -- Allocating: the span, the element or the pages that a record takes, "no room" and "sweep first", and what the call leaves.
-use Prim.Native.Nat.{ℕ, _+_, _-_, _*_}
-use mathlib.Core.Bool.{Bool, true, _&&_, _||_, not, cond}
+use Prim.Native.Nat.{ℕ, _+_, _-_}
+use mathlib.Core.Bool.{Bool, true, _&&_, _||_, not}
 use mathlib.Core.List.{List}
 use lib.ListN.{set}
 use Rattle.model.specs.Bounded.{_==_, _<?_, _≤?_, _implies_, if_then_else_, allBelow, firstBelow, someBelow}

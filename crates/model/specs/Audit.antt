@@ -1,6 +1,6 @@
 -- The audit: "Yes exactly if". Clause by clause, page by page, word by word, stack by stack, root by root.
 use Prim.Native.Nat.{ℕ, _+_, _-_}
-use mathlib.Core.Bool.{Bool, _&&_, _||_, not, cond}
+use mathlib.Core.Bool.{Bool, _&&_, _||_, not}
 use mathlib.Core.List.{List}
 use Rattle.model.specs.Bounded.{_==_, _<?_, _≤?_, if_then_else_, _implies_, allBelow, someBelow}
 use Rattle.model.specs.Memory.{Heap, words, stacks, slots, slot, state, globalsState, phase, root, closed, openState, grayState, off, mark, sweep, nil, addressOf, wordOf, recordOf, word, firstState}

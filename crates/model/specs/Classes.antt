@@ -1,6 +1,5 @@
 -- Size classes.
 use Prim.Native.Nat.{ℕ, _+_, _-_, _*_, _/_}
-use mathlib.Core.Bool.{cond}
 use mathlib.Core.List.{List, [], _∷_}
 use lib.ListN.{getD}
 use Rattle.model.specs.Bounded.{_==_, _<?_, _≤?_, if_then_else_, firstBelow}

@@ -1,8 +1,7 @@
 -- One cycle: start, scans, mark steps, finish, sweep steps.
 use Prim.Native.Nat.{ℕ, _+_, _*_}
-use mathlib.Core.Bool.{Bool, true, false, _&&_, _||_, not, cond}
+use mathlib.Core.Bool.{Bool, false, _&&_, _||_, not, cond}
 use mathlib.Core.List.{List}
-use lib.ListN.{set}
 use Rattle.model.specs.Bounded.{_==_, _<?_, if_then_else_, allBelow, firstBelow, someBelow, countBelow}
 use Rattle.model.specs.Memory.{Heap, lent, choose, withTable, withBits, words, pageWords, stacks, slots, globals, slot, global, state, root, globalsState, firstState, stateAt, globalsStateAt, phaseAt, closed, openState, grayState, off, mark, sweep, setRoot, putWords, withRoots, word, addressOf, firstWord}
 use Rattle.model.specs.Answers.{Outcome, outcome, _orElse_, _given_, unfinished}

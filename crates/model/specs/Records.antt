@@ -1,6 +1,5 @@
 -- Setup, and the other calls on records, stacks and globals. All but setup are taken after the audit (Calls.run).
 use Prim.Native.Nat.{ℕ, _+_, _*_}
-use mathlib.Core.List.{List}
 use lib.ListN.{set, replicate}
 use Rattle.model.specs.Memory.{Heap, lent, withArena, withBits, withRoots, entryNumbers, bitmapWords, rootWords, slots, slotAt, globalAt, stateAt, globalsStateAt, slot, global, word, putWords, setRoot, nil, openState, closed}
 use Rattle.model.specs.Answers.{Outcome, outcome}

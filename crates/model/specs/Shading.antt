@@ -1,6 +1,6 @@
 -- Shading and the barrier. Shading changes the bitmaps alone: here they go in and come out, for a heap of p pages and page table t.
 use Prim.Native.Nat.{ℕ, _*_}
-use mathlib.Core.Bool.{Bool, true, _&&_, not, cond}
+use mathlib.Core.Bool.{Bool, true, _&&_, not}
 use mathlib.Core.List.{List}
 use Rattle.model.specs.Bounded.{_==_, if_then_else_, countBelow, foldBelow}
 use Rattle.model.specs.Memory.{Heap, pageWords, nil, recordOf, phase, mark}

@@ -3,7 +3,7 @@ use Prim.Native.Nat.{ℕ, _+_, _-_, _*_, _/_, _%_}
 use mathlib.Core.Bool.{Bool, _&&_, not, cond}
 use mathlib.Core.List.{List}
 use lib.ListN.{getD, set}
-use Rattle.model.specs.Bounded.{_==_, _<?_, _≤?_, if_then_else_, firstBelow, writeRun}
+use Rattle.model.specs.Bounded.{_==_, _<?_, _≤?_, firstBelow, writeRun}
 use Rattle.model.specs.Memory.{Heap, entryNumbers, pageOf, firstWord}
 use Rattle.model.specs.Classes.{elementWordsOf, elementsOf}
 use Rattle.model.specs.Bitmaps.{is, allocated, marked, pointer}

@@ -132,6 +132,33 @@ fn play_line(
     play_later(arena, table, bits, roots, out, line, run.pages, number, at)
 }
 
+// Before the first line.
+fn begun() -> Progress
+    ensures { λ r. ⌜ Fits r ⌝ }
+{
+    Progress {
+        pages: 0,
+        lines: 0,
+        used: 0,
+        at: 0,
+        more: true,
+    }
+}
+
+// The run with so many bytes of the line under way.
+fn paused(run: Progress, used: usize, more: bool) -> Progress
+    requires { ⌜ (Fits run) × (used ≤ 80) ⌝ }
+    ensures { λ r. ⌜ Fits r ⌝ }
+{
+    Progress {
+        pages: run.pages,
+        lines: run.lines,
+        used,
+        at: run.at,
+        more,
+    }
+}
+
 // The bytes of a block, one after the other. Where a line gets too long, the run ends with the line
 // under way.
 fn feed(
@@ -162,25 +189,13 @@ fn feed(
             used = 0;
         } else {
             if used == lines::LONGEST {
-                return Progress {
-                    pages: run.pages,
-                    lines: run.lines,
-                    used,
-                    at: run.at,
-                    more: false,
-                };
+                return paused(run, used, false);
             }
             line[used] = b;
             used += 1;
         }
     }
-    Progress {
-        pages: run.pages,
-        lines: run.lines,
-        used,
-        at: run.at,
-        more: true,
-    }
+    paused(run, used, true)
 }
 
 // What waits is written.
@@ -222,13 +237,7 @@ fn main() {
     let mut line = [0u8; 80];
     let mut block = io::large_buffer();
     let mut out = io::large_buffer();
-    let mut run = Progress {
-        pages: 0,
-        lines: 0,
-        used: 0,
-        at: 0,
-        more: true,
-    };
+    let mut run = begun();
     let mut turns = u64::MAX;
     while 0 < turns {
         let got = libc::read(STDIN, &mut block);

@@ -1,5 +1,4 @@
 -- `allocate::allocate` meets its contract. `facts` is what is known where the allocation is accepted.
-use native.Mathlib.Omega.{arith}
 use denote.Ref.{now}
 use borrow.Author.Needs.{needs}
 use Rattle.model.proofs.Outcomes.{refused}

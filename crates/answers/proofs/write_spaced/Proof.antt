@@ -1,7 +1,7 @@
 -- `answers::write_spaced` meets its contract: the space, then what `write_decimal` promises.
 use native.Mathlib.Omega.{arith}
 use lib.ListN.{length-set}
-use Rattle.answers.proofs.Bytes.{decimal-length, then, step}
+use Rattle.answers.proofs.Bytes.{decimal-length, step}
 use borrow.Author.Needs.{needs}
 use Rattle.answers.proofs.write_spaced.Statement.{statement}
 use Rattle.answers.proofs.write_spaced.Tie as tie

@@ -1,4 +1,4 @@
-use mathlib.Core.Path.{_≡_, refl}
+use mathlib.Core.Path.{refl}
 use borrow.Author.Needs.{needs}
 use Rattle.exports.proofs.write_answer.Statement.{statement}
 use Rattle.exports.proofs.write_answer.Tie as tie

@@ -62,6 +62,9 @@ loop-less c = search needs
 loop-again : tie.Need-loop-again Inv-loop μ-loop
 loop-again c = search needs
 
+paused-requires : tie.Need-paused-requires Inv-loop μ-loop
+paused-requires c κs = search needs
+
 same-length-7 : tie.Need-same-length-7 Inv-loop μ-loop
 same-length-7 c = search needs
 
@@ -94,6 +97,9 @@ loop-less-2 c = search needs
 
 loop-again-2 : tie.Need-loop-again-2 Inv-loop μ-loop
 loop-again-2 c = simp length-set (search needs)
+
+paused-requires-2 : tie.Need-paused-requires-2 Inv-loop μ-loop
+paused-requires-2 c κs = search needs
 
 same-length-13 : tie.Need-same-length-13 Inv-loop μ-loop
 same-length-13 c = search needs
@@ -137,6 +143,7 @@ feed-spec =
     returns
     loop-less
     loop-again
+    paused-requires
     same-length-7
     same-length-8
     same-length-9
@@ -148,6 +155,7 @@ feed-spec =
     add-used
     loop-less-2
     loop-again-2
+    paused-requires-2
     same-length-13
     same-length-14
     same-length-15

@@ -21,6 +21,9 @@ large-buffer-requires c κs = search needs
 large-buffer-requires-2 : tie.Need-large-buffer-requires-2 Inv-loop μ-loop
 large-buffer-requires-2 c κs = search needs
 
+begun-requires : tie.Need-begun-requires Inv-loop μ-loop
+begun-requires c κs = search needs
+
 loop-holds : tie.Need-loop-holds Inv-loop μ-loop
 loop-holds c = search needs
 
@@ -107,6 +110,7 @@ main-spec =
     μ-loop
     large-buffer-requires
     large-buffer-requires-2
+    begun-requires
     loop-holds
     slice-aggregate-read
     read-requires

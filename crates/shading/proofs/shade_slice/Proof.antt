@@ -1,5 +1,5 @@
 -- The invariant: the first k values are shaded, and their marks counted.
-use Prim.Native.Nat.{ℕ, _+_, _-_, _≤_}
+use Prim.Native.Nat.{_+_, _-_, _≤_}
 use mathlib.Core.Path.{_≡_, refl, _∙_}
 use lib.ListN.{length, getD}
 use native.Mathlib.Omega.{arith}
