@@ -9,6 +9,9 @@ ghost use Rattle.model.specs.Bounded.{firstBelow};
 ghost use Rattle.model.specs.Memory.{pageWords, wordBits, maxPages, bitmapWords};
 ghost use Rattle.model.specs.Bitmaps.{bitAt};
 ghost use Rattle.bitsearch.specs.Freed.{isFreed};
+
+pub mod downward; // downward.rt: the search from the top down
+
 use units::ALL_BITS;
 use units::PAGE_BLOCKS;
 use units::WORD_BITS;
