@@ -2,8 +2,9 @@
  *
  * Every function takes the number of pages P and four buffers, each as a pointer and a length. The
  * lengths have to be exactly those below; anything else is refused, and a refused call changes no
- * word. The buffers must not overlap, and each pointer must be that of `length` words that may be
- * written. What the buffers hold is not trusted: every call but heap_setup audits them first.
+ * word. The buffers must not overlap, and each pointer must be that of `length` words, which may be
+ * written where it is not `const`. What the buffers hold is not trusted: every call but heap_setup
+ * audits them first.
  *
  *   arena     1024 * P words of 64 bits
  *   table        3 * P numbers of 32 bits
@@ -50,57 +51,76 @@ enum {
     HEAP_UNFINISHED = 10  /* finish with a gray stack, gray globals or a gray record */
 };
 
-#define HEAP_BUFFERS                                                                               \
-    uint64_t p, uint64_t *arena, size_t arena_length, uint32_t *table, size_t table_length,        \
-        uint64_t *bitmaps, size_t bitmaps_length, uint64_t *roots, size_t roots_length
+/* P and the four buffers, as every call takes them: for arena, table, bitmaps and roots in this
+ * order `const` where the call never writes, HEAP_WRITES where it may. */
+#define HEAP_WRITES
+#define HEAP_BUFFERS(of_arena, of_table, of_bitmaps, of_roots)                                     \
+    uint64_t p, of_arena uint64_t *arena, size_t arena_length, of_table uint32_t *table,           \
+        size_t table_length, of_bitmaps uint64_t *bitmaps, size_t bitmaps_length,                  \
+        of_roots uint64_t *roots, size_t roots_length
 
 /* An empty heap: zeroes the page table, the bitmaps and the roots, and leaves the arena alone. */
-uint64_t heap_setup(HEAP_BUFFERS, uint64_t values[3]);
+uint64_t heap_setup(HEAP_BUFFERS(const, HEAP_WRITES, HEAP_WRITES, HEAP_WRITES),
+                    uint64_t values[3]);
 
 /* Accepted where the buffers hold a heap; 12 where not. */
-uint64_t heap_audit(HEAP_BUFFERS, uint64_t values[3]);
+uint64_t heap_audit(HEAP_BUFFERS(const, const, const, const),
+                    uint64_t values[3]);
 
 /* Open stack s, 0 to 15, with its 32 slots nil; close it. */
-uint64_t heap_open(HEAP_BUFFERS, uint64_t s, uint64_t values[3]);
-uint64_t heap_close(HEAP_BUFFERS, uint64_t s, uint64_t values[3]);
+uint64_t heap_open(HEAP_BUFFERS(const, const, const, HEAP_WRITES),
+                   uint64_t s, uint64_t values[3]);
+uint64_t heap_close(HEAP_BUFFERS(const, const, const, HEAP_WRITES),
+                    uint64_t s, uint64_t values[3]);
 
 /* A record of `size` bytes whose first `pointers` words hold pointers, all words 0, into slot i of
  * stack s. values[0] is its address. */
-uint64_t heap_alloc(HEAP_BUFFERS, uint64_t s, uint64_t i, uint64_t size, uint64_t pointers,
-                    uint64_t values[3]);
+uint64_t heap_alloc(HEAP_BUFFERS(HEAP_WRITES, HEAP_WRITES, HEAP_WRITES, HEAP_WRITES),
+                    uint64_t s, uint64_t i, uint64_t size, uint64_t pointers, uint64_t values[3]);
 
 /* Slot i of stack s becomes slot j; it becomes nil. values[0] is the slot's new value. */
-uint64_t heap_copy(HEAP_BUFFERS, uint64_t s, uint64_t i, uint64_t j, uint64_t values[3]);
-uint64_t heap_clear(HEAP_BUFFERS, uint64_t s, uint64_t i, uint64_t values[3]);
+uint64_t heap_copy(HEAP_BUFFERS(const, const, const, HEAP_WRITES),
+                   uint64_t s, uint64_t i, uint64_t j, uint64_t values[3]);
+uint64_t heap_clear(HEAP_BUFFERS(const, const, const, HEAP_WRITES),
+                    uint64_t s, uint64_t i, uint64_t values[3]);
 
 /* Slot i of stack s becomes pointer word f of the record in slot j. values[0] is its new value. */
-uint64_t heap_load(HEAP_BUFFERS, uint64_t s, uint64_t i, uint64_t j, uint64_t f,
-                   uint64_t values[3]);
+uint64_t heap_load(HEAP_BUFFERS(const, const, const, HEAP_WRITES),
+                   uint64_t s, uint64_t i, uint64_t j, uint64_t f, uint64_t values[3]);
 
 /* Pointer word f of the record in slot j of stack s becomes slot k. */
-uint64_t heap_store(HEAP_BUFFERS, uint64_t s, uint64_t j, uint64_t f, uint64_t k,
-                    uint64_t values[3]);
+uint64_t heap_store(HEAP_BUFFERS(HEAP_WRITES, const, HEAP_WRITES, const),
+                    uint64_t s, uint64_t j, uint64_t f, uint64_t k, uint64_t values[3]);
 
 /* Number word f of the record in slot j of stack s becomes v; values[0] is the number there. The
  * number words come behind the pointer words, up to the element's last word. */
-uint64_t heap_put(HEAP_BUFFERS, uint64_t s, uint64_t j, uint64_t f, uint64_t v,
-                  uint64_t values[3]);
-uint64_t heap_get(HEAP_BUFFERS, uint64_t s, uint64_t j, uint64_t f, uint64_t values[3]);
+uint64_t heap_put(HEAP_BUFFERS(HEAP_WRITES, const, const, const),
+                  uint64_t s, uint64_t j, uint64_t f, uint64_t v, uint64_t values[3]);
+uint64_t heap_get(HEAP_BUFFERS(const, const, const, const),
+                  uint64_t s, uint64_t j, uint64_t f, uint64_t values[3]);
 
 /* Slot i of stack s becomes global g, 0 to 31 (values[0] is its new value); global g becomes
  * slot i. */
-uint64_t heap_load_global(HEAP_BUFFERS, uint64_t s, uint64_t i, uint64_t g, uint64_t values[3]);
-uint64_t heap_store_global(HEAP_BUFFERS, uint64_t s, uint64_t g, uint64_t i, uint64_t values[3]);
+uint64_t heap_load_global(HEAP_BUFFERS(const, const, const, HEAP_WRITES),
+                          uint64_t s, uint64_t i, uint64_t g, uint64_t values[3]);
+uint64_t heap_store_global(HEAP_BUFFERS(const, const, HEAP_WRITES, HEAP_WRITES),
+                           uint64_t s, uint64_t g, uint64_t i, uint64_t values[3]);
 
 /* One cycle: start it; scan each open stack and the globals (values[0] counts the mark bits that
  * turned on); mark steps (values[0] is the record's address) until one answers 0; finish; sweep
  * steps (start page + 1, elements freed, pages returned) until one answers 0, 0, 0. */
-uint64_t heap_start(HEAP_BUFFERS, uint64_t values[3]);
-uint64_t heap_scan_stack(HEAP_BUFFERS, uint64_t s, uint64_t values[3]);
-uint64_t heap_scan_globals(HEAP_BUFFERS, uint64_t values[3]);
-uint64_t heap_mark_step(HEAP_BUFFERS, uint64_t values[3]);
-uint64_t heap_finish(HEAP_BUFFERS, uint64_t values[3]);
-uint64_t heap_sweep_step(HEAP_BUFFERS, uint64_t values[3]);
+uint64_t heap_start(HEAP_BUFFERS(const, const, const, HEAP_WRITES),
+                    uint64_t values[3]);
+uint64_t heap_scan_stack(HEAP_BUFFERS(const, const, HEAP_WRITES, HEAP_WRITES),
+                         uint64_t s, uint64_t values[3]);
+uint64_t heap_scan_globals(HEAP_BUFFERS(const, const, HEAP_WRITES, HEAP_WRITES),
+                           uint64_t values[3]);
+uint64_t heap_mark_step(HEAP_BUFFERS(const, const, HEAP_WRITES, const),
+                        uint64_t values[3]);
+uint64_t heap_finish(HEAP_BUFFERS(const, HEAP_WRITES, const, HEAP_WRITES),
+                     uint64_t values[3]);
+uint64_t heap_sweep_step(HEAP_BUFFERS(const, HEAP_WRITES, HEAP_WRITES, HEAP_WRITES),
+                         uint64_t values[3]);
 
 #ifdef __cplusplus
 }

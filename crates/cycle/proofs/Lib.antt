@@ -1,4 +1,2 @@
 pub mod Finishing
 pub mod Marking
-pub mod Scanning
-pub mod Starting

@@ -43,13 +43,13 @@ fn write_answer(answer: Answer, out: &mut [u64; 3]) -> u64
 #[no_mangle]
 pub extern "C" fn heap_setup(
     p: u64,
-    arena: &mut [u64],
+    arena: &[u64],
     table: &mut [u32],
     bits: &mut [u64],
     roots: &mut [u64],
     out: &mut [u64; 3],
 ) -> u64
-    ensures { λ r. ⌜ Exported (run (lent p (now (arena .entry)) (now (table .entry)) (now (bits .entry)) (now (roots .entry))) Setup) r (now (out .entry)) (now (out .exit)) (now (arena .exit)) (now (table .exit)) (now (bits .exit)) (now (roots .exit)) ⌝ }
+    ensures { λ r. ⌜ Exported (run (lent p (now (arena .entry)) (now (table .entry)) (now (bits .entry)) (now (roots .entry))) Setup) r (now (out .entry)) (now (out .exit)) (now (arena .entry)) (now (table .exit)) (now (bits .exit)) (now (roots .exit)) ⌝ }
 {
     let answer = heap::setup(p, arena, table, bits, roots);
     write_answer(answer, out)
@@ -58,13 +58,13 @@ pub extern "C" fn heap_setup(
 #[no_mangle]
 pub extern "C" fn heap_audit(
     p: u64,
-    arena: &mut [u64],
-    table: &mut [u32],
-    bits: &mut [u64],
-    roots: &mut [u64],
+    arena: &[u64],
+    table: &[u32],
+    bits: &[u64],
+    roots: &[u64],
     out: &mut [u64; 3],
 ) -> u64
-    ensures { λ r. ⌜ Exported (run (lent p (now (arena .entry)) (now (table .entry)) (now (bits .entry)) (now (roots .entry))) Audit) r (now (out .entry)) (now (out .exit)) (now (arena .exit)) (now (table .exit)) (now (bits .exit)) (now (roots .exit)) ⌝ }
+    ensures { λ r. ⌜ Exported (run (lent p (now (arena .entry)) (now (table .entry)) (now (bits .entry)) (now (roots .entry))) Audit) r (now (out .entry)) (now (out .exit)) (now (arena .entry)) (now (table .entry)) (now (bits .entry)) (now (roots .entry)) ⌝ }
 {
     let answer = heap::audit(p, arena, table, bits, roots);
     write_answer(answer, out)
@@ -73,14 +73,14 @@ pub extern "C" fn heap_audit(
 #[no_mangle]
 pub extern "C" fn heap_open(
     p: u64,
-    arena: &mut [u64],
-    table: &mut [u32],
-    bits: &mut [u64],
+    arena: &[u64],
+    table: &[u32],
+    bits: &[u64],
     roots: &mut [u64],
     s: u64,
     out: &mut [u64; 3],
 ) -> u64
-    ensures { λ r. ⌜ Exported (run (lent p (now (arena .entry)) (now (table .entry)) (now (bits .entry)) (now (roots .entry))) (Open s)) r (now (out .entry)) (now (out .exit)) (now (arena .exit)) (now (table .exit)) (now (bits .exit)) (now (roots .exit)) ⌝ }
+    ensures { λ r. ⌜ Exported (run (lent p (now (arena .entry)) (now (table .entry)) (now (bits .entry)) (now (roots .entry))) (Open s)) r (now (out .entry)) (now (out .exit)) (now (arena .entry)) (now (table .entry)) (now (bits .entry)) (now (roots .exit)) ⌝ }
 {
     let answer = heap::open(p, arena, table, bits, roots, s);
     write_answer(answer, out)
@@ -89,14 +89,14 @@ pub extern "C" fn heap_open(
 #[no_mangle]
 pub extern "C" fn heap_close(
     p: u64,
-    arena: &mut [u64],
-    table: &mut [u32],
-    bits: &mut [u64],
+    arena: &[u64],
+    table: &[u32],
+    bits: &[u64],
     roots: &mut [u64],
     s: u64,
     out: &mut [u64; 3],
 ) -> u64
-    ensures { λ r. ⌜ Exported (run (lent p (now (arena .entry)) (now (table .entry)) (now (bits .entry)) (now (roots .entry))) (Close s)) r (now (out .entry)) (now (out .exit)) (now (arena .exit)) (now (table .exit)) (now (bits .exit)) (now (roots .exit)) ⌝ }
+    ensures { λ r. ⌜ Exported (run (lent p (now (arena .entry)) (now (table .entry)) (now (bits .entry)) (now (roots .entry))) (Close s)) r (now (out .entry)) (now (out .exit)) (now (arena .entry)) (now (table .entry)) (now (bits .entry)) (now (roots .exit)) ⌝ }
 {
     let answer = heap::close(p, arena, table, bits, roots, s);
     write_answer(answer, out)
@@ -124,16 +124,16 @@ pub extern "C" fn heap_alloc(
 #[no_mangle]
 pub extern "C" fn heap_copy(
     p: u64,
-    arena: &mut [u64],
-    table: &mut [u32],
-    bits: &mut [u64],
+    arena: &[u64],
+    table: &[u32],
+    bits: &[u64],
     roots: &mut [u64],
     s: u64,
     i: u64,
     j: u64,
     out: &mut [u64; 3],
 ) -> u64
-    ensures { λ r. ⌜ Exported (run (lent p (now (arena .entry)) (now (table .entry)) (now (bits .entry)) (now (roots .entry))) (Copy s i j)) r (now (out .entry)) (now (out .exit)) (now (arena .exit)) (now (table .exit)) (now (bits .exit)) (now (roots .exit)) ⌝ }
+    ensures { λ r. ⌜ Exported (run (lent p (now (arena .entry)) (now (table .entry)) (now (bits .entry)) (now (roots .entry))) (Copy s i j)) r (now (out .entry)) (now (out .exit)) (now (arena .entry)) (now (table .entry)) (now (bits .entry)) (now (roots .exit)) ⌝ }
 {
     let answer = heap::copy(p, arena, table, bits, roots, s, i, j);
     write_answer(answer, out)
@@ -142,15 +142,15 @@ pub extern "C" fn heap_copy(
 #[no_mangle]
 pub extern "C" fn heap_clear(
     p: u64,
-    arena: &mut [u64],
-    table: &mut [u32],
-    bits: &mut [u64],
+    arena: &[u64],
+    table: &[u32],
+    bits: &[u64],
     roots: &mut [u64],
     s: u64,
     i: u64,
     out: &mut [u64; 3],
 ) -> u64
-    ensures { λ r. ⌜ Exported (run (lent p (now (arena .entry)) (now (table .entry)) (now (bits .entry)) (now (roots .entry))) (Clear s i)) r (now (out .entry)) (now (out .exit)) (now (arena .exit)) (now (table .exit)) (now (bits .exit)) (now (roots .exit)) ⌝ }
+    ensures { λ r. ⌜ Exported (run (lent p (now (arena .entry)) (now (table .entry)) (now (bits .entry)) (now (roots .entry))) (Clear s i)) r (now (out .entry)) (now (out .exit)) (now (arena .entry)) (now (table .entry)) (now (bits .entry)) (now (roots .exit)) ⌝ }
 {
     let answer = heap::clear(p, arena, table, bits, roots, s, i);
     write_answer(answer, out)
@@ -159,9 +159,9 @@ pub extern "C" fn heap_clear(
 #[no_mangle]
 pub extern "C" fn heap_load(
     p: u64,
-    arena: &mut [u64],
-    table: &mut [u32],
-    bits: &mut [u64],
+    arena: &[u64],
+    table: &[u32],
+    bits: &[u64],
     roots: &mut [u64],
     s: u64,
     i: u64,
@@ -169,7 +169,7 @@ pub extern "C" fn heap_load(
     f: u64,
     out: &mut [u64; 3],
 ) -> u64
-    ensures { λ r. ⌜ Exported (run (lent p (now (arena .entry)) (now (table .entry)) (now (bits .entry)) (now (roots .entry))) (Load s i j f)) r (now (out .entry)) (now (out .exit)) (now (arena .exit)) (now (table .exit)) (now (bits .exit)) (now (roots .exit)) ⌝ }
+    ensures { λ r. ⌜ Exported (run (lent p (now (arena .entry)) (now (table .entry)) (now (bits .entry)) (now (roots .entry))) (Load s i j f)) r (now (out .entry)) (now (out .exit)) (now (arena .entry)) (now (table .entry)) (now (bits .entry)) (now (roots .exit)) ⌝ }
 {
     let answer = heap::load(p, arena, table, bits, roots, s, i, j, f);
     write_answer(answer, out)
@@ -179,16 +179,16 @@ pub extern "C" fn heap_load(
 pub extern "C" fn heap_store(
     p: u64,
     arena: &mut [u64],
-    table: &mut [u32],
+    table: &[u32],
     bits: &mut [u64],
-    roots: &mut [u64],
+    roots: &[u64],
     s: u64,
     j: u64,
     f: u64,
     k: u64,
     out: &mut [u64; 3],
 ) -> u64
-    ensures { λ r. ⌜ Exported (run (lent p (now (arena .entry)) (now (table .entry)) (now (bits .entry)) (now (roots .entry))) (Store s j f k)) r (now (out .entry)) (now (out .exit)) (now (arena .exit)) (now (table .exit)) (now (bits .exit)) (now (roots .exit)) ⌝ }
+    ensures { λ r. ⌜ Exported (run (lent p (now (arena .entry)) (now (table .entry)) (now (bits .entry)) (now (roots .entry))) (Store s j f k)) r (now (out .entry)) (now (out .exit)) (now (arena .exit)) (now (table .entry)) (now (bits .exit)) (now (roots .entry)) ⌝ }
 {
     let answer = heap::store(p, arena, table, bits, roots, s, j, f, k);
     write_answer(answer, out)
@@ -198,16 +198,16 @@ pub extern "C" fn heap_store(
 pub extern "C" fn heap_put(
     p: u64,
     arena: &mut [u64],
-    table: &mut [u32],
-    bits: &mut [u64],
-    roots: &mut [u64],
+    table: &[u32],
+    bits: &[u64],
+    roots: &[u64],
     s: u64,
     j: u64,
     f: u64,
     v: u64,
     out: &mut [u64; 3],
 ) -> u64
-    ensures { λ r. ⌜ Exported (run (lent p (now (arena .entry)) (now (table .entry)) (now (bits .entry)) (now (roots .entry))) (Put s j f v)) r (now (out .entry)) (now (out .exit)) (now (arena .exit)) (now (table .exit)) (now (bits .exit)) (now (roots .exit)) ⌝ }
+    ensures { λ r. ⌜ Exported (run (lent p (now (arena .entry)) (now (table .entry)) (now (bits .entry)) (now (roots .entry))) (Put s j f v)) r (now (out .entry)) (now (out .exit)) (now (arena .exit)) (now (table .entry)) (now (bits .entry)) (now (roots .entry)) ⌝ }
 {
     let answer = heap::put(p, arena, table, bits, roots, s, j, f, v);
     write_answer(answer, out)
@@ -216,16 +216,16 @@ pub extern "C" fn heap_put(
 #[no_mangle]
 pub extern "C" fn heap_get(
     p: u64,
-    arena: &mut [u64],
-    table: &mut [u32],
-    bits: &mut [u64],
-    roots: &mut [u64],
+    arena: &[u64],
+    table: &[u32],
+    bits: &[u64],
+    roots: &[u64],
     s: u64,
     j: u64,
     f: u64,
     out: &mut [u64; 3],
 ) -> u64
-    ensures { λ r. ⌜ Exported (run (lent p (now (arena .entry)) (now (table .entry)) (now (bits .entry)) (now (roots .entry))) (Get s j f)) r (now (out .entry)) (now (out .exit)) (now (arena .exit)) (now (table .exit)) (now (bits .exit)) (now (roots .exit)) ⌝ }
+    ensures { λ r. ⌜ Exported (run (lent p (now (arena .entry)) (now (table .entry)) (now (bits .entry)) (now (roots .entry))) (Get s j f)) r (now (out .entry)) (now (out .exit)) (now (arena .entry)) (now (table .entry)) (now (bits .entry)) (now (roots .entry)) ⌝ }
 {
     let answer = heap::get(p, arena, table, bits, roots, s, j, f);
     write_answer(answer, out)
@@ -234,16 +234,16 @@ pub extern "C" fn heap_get(
 #[no_mangle]
 pub extern "C" fn heap_load_global(
     p: u64,
-    arena: &mut [u64],
-    table: &mut [u32],
-    bits: &mut [u64],
+    arena: &[u64],
+    table: &[u32],
+    bits: &[u64],
     roots: &mut [u64],
     s: u64,
     i: u64,
     g: u64,
     out: &mut [u64; 3],
 ) -> u64
-    ensures { λ r. ⌜ Exported (run (lent p (now (arena .entry)) (now (table .entry)) (now (bits .entry)) (now (roots .entry))) (LoadGlobal s i g)) r (now (out .entry)) (now (out .exit)) (now (arena .exit)) (now (table .exit)) (now (bits .exit)) (now (roots .exit)) ⌝ }
+    ensures { λ r. ⌜ Exported (run (lent p (now (arena .entry)) (now (table .entry)) (now (bits .entry)) (now (roots .entry))) (LoadGlobal s i g)) r (now (out .entry)) (now (out .exit)) (now (arena .entry)) (now (table .entry)) (now (bits .entry)) (now (roots .exit)) ⌝ }
 {
     let answer = heap::load_global(p, arena, table, bits, roots, s, i, g);
     write_answer(answer, out)
@@ -252,8 +252,8 @@ pub extern "C" fn heap_load_global(
 #[no_mangle]
 pub extern "C" fn heap_store_global(
     p: u64,
-    arena: &mut [u64],
-    table: &mut [u32],
+    arena: &[u64],
+    table: &[u32],
     bits: &mut [u64],
     roots: &mut [u64],
     s: u64,
@@ -261,7 +261,7 @@ pub extern "C" fn heap_store_global(
     i: u64,
     out: &mut [u64; 3],
 ) -> u64
-    ensures { λ r. ⌜ Exported (run (lent p (now (arena .entry)) (now (table .entry)) (now (bits .entry)) (now (roots .entry))) (StoreGlobal s g i)) r (now (out .entry)) (now (out .exit)) (now (arena .exit)) (now (table .exit)) (now (bits .exit)) (now (roots .exit)) ⌝ }
+    ensures { λ r. ⌜ Exported (run (lent p (now (arena .entry)) (now (table .entry)) (now (bits .entry)) (now (roots .entry))) (StoreGlobal s g i)) r (now (out .entry)) (now (out .exit)) (now (arena .entry)) (now (table .entry)) (now (bits .exit)) (now (roots .exit)) ⌝ }
 {
     let answer = heap::store_global(p, arena, table, bits, roots, s, g, i);
     write_answer(answer, out)
@@ -270,13 +270,13 @@ pub extern "C" fn heap_store_global(
 #[no_mangle]
 pub extern "C" fn heap_start(
     p: u64,
-    arena: &mut [u64],
-    table: &mut [u32],
-    bits: &mut [u64],
+    arena: &[u64],
+    table: &[u32],
+    bits: &[u64],
     roots: &mut [u64],
     out: &mut [u64; 3],
 ) -> u64
-    ensures { λ r. ⌜ Exported (run (lent p (now (arena .entry)) (now (table .entry)) (now (bits .entry)) (now (roots .entry))) Start) r (now (out .entry)) (now (out .exit)) (now (arena .exit)) (now (table .exit)) (now (bits .exit)) (now (roots .exit)) ⌝ }
+    ensures { λ r. ⌜ Exported (run (lent p (now (arena .entry)) (now (table .entry)) (now (bits .entry)) (now (roots .entry))) Start) r (now (out .entry)) (now (out .exit)) (now (arena .entry)) (now (table .entry)) (now (bits .entry)) (now (roots .exit)) ⌝ }
 {
     let answer = heap::start(p, arena, table, bits, roots);
     write_answer(answer, out)
@@ -285,14 +285,14 @@ pub extern "C" fn heap_start(
 #[no_mangle]
 pub extern "C" fn heap_scan_stack(
     p: u64,
-    arena: &mut [u64],
-    table: &mut [u32],
+    arena: &[u64],
+    table: &[u32],
     bits: &mut [u64],
     roots: &mut [u64],
     s: u64,
     out: &mut [u64; 3],
 ) -> u64
-    ensures { λ r. ⌜ Exported (run (lent p (now (arena .entry)) (now (table .entry)) (now (bits .entry)) (now (roots .entry))) (ScanStack s)) r (now (out .entry)) (now (out .exit)) (now (arena .exit)) (now (table .exit)) (now (bits .exit)) (now (roots .exit)) ⌝ }
+    ensures { λ r. ⌜ Exported (run (lent p (now (arena .entry)) (now (table .entry)) (now (bits .entry)) (now (roots .entry))) (ScanStack s)) r (now (out .entry)) (now (out .exit)) (now (arena .entry)) (now (table .entry)) (now (bits .exit)) (now (roots .exit)) ⌝ }
 {
     let answer = heap::scan_stack(p, arena, table, bits, roots, s);
     write_answer(answer, out)
@@ -301,13 +301,13 @@ pub extern "C" fn heap_scan_stack(
 #[no_mangle]
 pub extern "C" fn heap_scan_globals(
     p: u64,
-    arena: &mut [u64],
-    table: &mut [u32],
+    arena: &[u64],
+    table: &[u32],
     bits: &mut [u64],
     roots: &mut [u64],
     out: &mut [u64; 3],
 ) -> u64
-    ensures { λ r. ⌜ Exported (run (lent p (now (arena .entry)) (now (table .entry)) (now (bits .entry)) (now (roots .entry))) ScanGlobals) r (now (out .entry)) (now (out .exit)) (now (arena .exit)) (now (table .exit)) (now (bits .exit)) (now (roots .exit)) ⌝ }
+    ensures { λ r. ⌜ Exported (run (lent p (now (arena .entry)) (now (table .entry)) (now (bits .entry)) (now (roots .entry))) ScanGlobals) r (now (out .entry)) (now (out .exit)) (now (arena .entry)) (now (table .entry)) (now (bits .exit)) (now (roots .exit)) ⌝ }
 {
     let answer = heap::scan_globals(p, arena, table, bits, roots);
     write_answer(answer, out)
@@ -316,13 +316,13 @@ pub extern "C" fn heap_scan_globals(
 #[no_mangle]
 pub extern "C" fn heap_mark_step(
     p: u64,
-    arena: &mut [u64],
-    table: &mut [u32],
+    arena: &[u64],
+    table: &[u32],
     bits: &mut [u64],
-    roots: &mut [u64],
+    roots: &[u64],
     out: &mut [u64; 3],
 ) -> u64
-    ensures { λ r. ⌜ Exported (run (lent p (now (arena .entry)) (now (table .entry)) (now (bits .entry)) (now (roots .entry))) MarkStep) r (now (out .entry)) (now (out .exit)) (now (arena .exit)) (now (table .exit)) (now (bits .exit)) (now (roots .exit)) ⌝ }
+    ensures { λ r. ⌜ Exported (run (lent p (now (arena .entry)) (now (table .entry)) (now (bits .entry)) (now (roots .entry))) MarkStep) r (now (out .entry)) (now (out .exit)) (now (arena .entry)) (now (table .entry)) (now (bits .exit)) (now (roots .entry)) ⌝ }
 {
     let answer = heap::mark_step(p, arena, table, bits, roots);
     write_answer(answer, out)
@@ -331,13 +331,13 @@ pub extern "C" fn heap_mark_step(
 #[no_mangle]
 pub extern "C" fn heap_finish(
     p: u64,
-    arena: &mut [u64],
+    arena: &[u64],
     table: &mut [u32],
-    bits: &mut [u64],
+    bits: &[u64],
     roots: &mut [u64],
     out: &mut [u64; 3],
 ) -> u64
-    ensures { λ r. ⌜ Exported (run (lent p (now (arena .entry)) (now (table .entry)) (now (bits .entry)) (now (roots .entry))) Finish) r (now (out .entry)) (now (out .exit)) (now (arena .exit)) (now (table .exit)) (now (bits .exit)) (now (roots .exit)) ⌝ }
+    ensures { λ r. ⌜ Exported (run (lent p (now (arena .entry)) (now (table .entry)) (now (bits .entry)) (now (roots .entry))) Finish) r (now (out .entry)) (now (out .exit)) (now (arena .entry)) (now (table .exit)) (now (bits .entry)) (now (roots .exit)) ⌝ }
 {
     let answer = heap::finish(p, arena, table, bits, roots);
     write_answer(answer, out)
@@ -346,13 +346,13 @@ pub extern "C" fn heap_finish(
 #[no_mangle]
 pub extern "C" fn heap_sweep_step(
     p: u64,
-    arena: &mut [u64],
+    arena: &[u64],
     table: &mut [u32],
     bits: &mut [u64],
     roots: &mut [u64],
     out: &mut [u64; 3],
 ) -> u64
-    ensures { λ r. ⌜ Exported (run (lent p (now (arena .entry)) (now (table .entry)) (now (bits .entry)) (now (roots .entry))) SweepStep) r (now (out .entry)) (now (out .exit)) (now (arena .exit)) (now (table .exit)) (now (bits .exit)) (now (roots .exit)) ⌝ }
+    ensures { λ r. ⌜ Exported (run (lent p (now (arena .entry)) (now (table .entry)) (now (bits .entry)) (now (roots .entry))) SweepStep) r (now (out .entry)) (now (out .exit)) (now (arena .entry)) (now (table .exit)) (now (bits .exit)) (now (roots .exit)) ⌝ }
 {
     let answer = heap::sweep_step(p, arena, table, bits, roots);
     write_answer(answer, out)

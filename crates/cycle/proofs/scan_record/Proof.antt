@@ -2,7 +2,7 @@
 use native.Mathlib.Omega.{arith}
 use denote.Ref.{now}
 use Rattle.model.specs.Memory.{lent}
-use Rattle.cycle.proofs.Scanning.{each-fewer}
+use Rattle.scanning.proofs.Scanning.{each-fewer}
 use Rattle.cycle.proofs.Marking.{lies, gray-record, gray-words, record-scanned}
 use Rattle.model.proofs.Spans.{whole}
 use borrow.Author.Needs.{needs}

@@ -5,26 +5,17 @@ use Rattle.exports.proofs.heap_mark_step.Statement.{statement}
 use Rattle.exports.proofs.heap_mark_step.Tie as tie
 
 mark-step-requires : tie.Need-mark-step-requires
-mark-step-requires c κs = search needs
+mark-step-requires c κs = tt
 
 write-answer-requires : tie.Need-write-answer-requires
-write-answer-requires c κs = search needs
+write-answer-requires c κs = tt
 
 same-length : tie.Need-same-length
 same-length c = search needs
 
-same-length-2 : tie.Need-same-length-2
-same-length-2 c = search needs
-
-same-length-3 : tie.Need-same-length-3
-same-length-3 c = search needs
-
-same-length-4 : tie.Need-same-length-4
-same-length-4 c = search needs
-
 returns : tie.Need-returns
-returns c = exported (c .before .before .before .before .before .before .before .before .before .before .mark-step .ensures) _ _ _ (c .write-answer .ensures)
+returns c = exported (c .before .before .before .before .mark-step .ensures) _ _ _ (c .write-answer .ensures)
 
 pub heap-mark-step-spec : {M : Type 1} → statement M
 heap-mark-step-spec =
-    tie.close (tie.spec mark-step-requires write-answer-requires same-length same-length-2 same-length-3 same-length-4 returns)
+    tie.close (tie.spec mark-step-requires write-answer-requires same-length returns)

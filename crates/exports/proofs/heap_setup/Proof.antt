@@ -5,10 +5,10 @@ use Rattle.exports.proofs.heap_setup.Statement.{statement}
 use Rattle.exports.proofs.heap_setup.Tie as tie
 
 setup-requires : tie.Need-setup-requires
-setup-requires c κs = search needs
+setup-requires c κs = tt
 
 write-answer-requires : tie.Need-write-answer-requires
-write-answer-requires c κs = search needs
+write-answer-requires c κs = tt
 
 same-length : tie.Need-same-length
 same-length c = search needs
@@ -19,12 +19,9 @@ same-length-2 c = search needs
 same-length-3 : tie.Need-same-length-3
 same-length-3 c = search needs
 
-same-length-4 : tie.Need-same-length-4
-same-length-4 c = search needs
-
 returns : tie.Need-returns
-returns c = exported (c .before .before .before .before .before .before .before .before .before .before .setup .ensures) _ _ _ (c .write-answer .ensures)
+returns c = exported (c .before .before .before .before .before .before .before .before .setup .ensures) _ _ _ (c .write-answer .ensures)
 
 pub heap-setup-spec : {M : Type 1} → statement M
 heap-setup-spec =
-    tie.close (tie.spec setup-requires write-answer-requires same-length same-length-2 same-length-3 same-length-4 returns)
+    tie.close (tie.spec setup-requires write-answer-requires same-length same-length-2 same-length-3 returns)

@@ -8,32 +8,8 @@ use Rattle.heap.proofs.audit.Tie as tie
 entry-requires : tie.Need-entry-requires
 entry-requires c κs = search needs
 
-same-length : tie.Need-same-length
-same-length c = search needs
-
-same-length-2 : tie.Need-same-length-2
-same-length-2 c = search needs
-
-same-length-3 : tie.Need-same-length-3
-same-length-3 c = search needs
-
-same-length-4 : tie.Need-same-length-4
-same-length-4 c = search needs
-
 returns : tie.Need-returns
 returns c = not-entered _ _ (c .before .entry .ensures) (c .if1 .taken)
-
-same-length-5 : tie.Need-same-length-5
-same-length-5 c = search needs
-
-same-length-6 : tie.Need-same-length-6
-same-length-6 c = search needs
-
-same-length-7 : tie.Need-same-length-7
-same-length-7 c = search needs
-
-same-length-8 : tie.Need-same-length-8
-same-length-8 c = search needs
 
 returns-2 : tie.Need-returns-2
 returns-2 c =
@@ -43,4 +19,4 @@ returns-2 c =
 pub audit-spec : {M : Type 1} → statement M
 audit-spec =
     tie.close
-    (tie.spec entry-requires same-length same-length-2 same-length-3 same-length-4 returns same-length-5 same-length-6 same-length-7 same-length-8 returns-2)
+    (tie.spec entry-requires returns returns-2)

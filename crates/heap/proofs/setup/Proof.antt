@@ -21,9 +21,6 @@ same-length-2 c = search needs
 same-length-3 : tie.Need-same-length-3
 same-length-3 c = search needs
 
-same-length-4 : tie.Need-same-length-4
-same-length-4 c = search needs
-
 returns : tie.Need-returns
 returns c = setup-refused _ (c .before .buffers-ok .result) (c .before .buffers-ok .ensures) (c .if1 .taken)
 
@@ -38,9 +35,13 @@ zero-requires-2 c κs = search needs
 
 slice-write-roots : tie.Need-slice-write-roots
 slice-write-roots c =
-    let Z = c .before .before .before .before .before .before .before .before .before .before .before .before .before .buffers-ok .ensures .0 (is-true (c .before .before .before .before .before .before .before .before .before .before .before .before .before .buffers-ok .result) (not-false (c .before .before .before .before .before .before .before .before .before .before .before .before .before .buffers-ok .result) (c .before .before .before .before .before .before .before .before .before .before .before .before .if1 .left))) in
-    let l : length (c .before .before .zero2 .last .0) ≡ 562 = ap length (c .before .before .zero2 .ensures) ∙ length-replicate (length (c .before .before .before .before .before .before .before .before .before .before .before .before .before .before .before .before .before .before .before .before .before .before .args .roots .now)) 0 ∙ Z .roots in
+    let t = c .before .before .before .before .before .before .before .before .before .before .before .before in
+    let Z = t .before .buffers-ok .ensures .0 (is-true (t .before .buffers-ok .result) (not-false (t .before .buffers-ok .result) (t .if1 .left))) in
+    let l : length (c .before .before .zero2 .last .0) ≡ 562 = ap length (c .before .before .zero2 .ensures) ∙ length-replicate (length (t .before .before .before .before .before .before .before .before .before .args .roots .now)) 0 ∙ Z .roots in
     omega (arith, l)
+
+same-length-4 : tie.Need-same-length-4
+same-length-4 c = search needs
 
 same-length-5 : tie.Need-same-length-5
 same-length-5 c = search needs
@@ -48,15 +49,10 @@ same-length-5 c = search needs
 same-length-6 : tie.Need-same-length-6
 same-length-6 c = search needs
 
-same-length-7 : tie.Need-same-length-7
-same-length-7 c = search needs
-
-same-length-8 : tie.Need-same-length-8
-same-length-8 c = search needs
-
 returns-2 : tie.Need-returns-2
 returns-2 c =
-    let Z = c .before .before .before .before .before .before .before .before .before .before .before .before .before .buffers-ok .ensures .0 (is-true (c .before .before .before .before .before .before .before .before .before .before .before .before .before .buffers-ok .result) (not-false (c .before .before .before .before .before .before .before .before .before .before .before .before .before .buffers-ok .result) (c .before .before .before .before .before .before .before .before .before .before .before .before .if1 .left))) in
+    let t = c .before .before .before .before .before .before .before .before .before .before .before .before in
+    let Z = t .before .buffers-ok .ensures .0 (is-true (t .before .buffers-ok .result) (not-false (t .before .buffers-ok .result) (t .if1 .left))) in
     rw (c .before .before .before .before .before .before .before .before .before .before .zero-numbers .ensures, c .before .before .before .before .before .before .zero .ensures, c .before .before .zero2 .ensures) (setup-done _ Z)
 
 pub setup-spec : {M : Type 1} → statement M
@@ -67,14 +63,12 @@ setup-spec =
     same-length
     same-length-2
     same-length-3
-    same-length-4
     returns
     zero-numbers-requires
     zero-requires
     zero-requires-2
     slice-write-roots
+    same-length-4
     same-length-5
     same-length-6
-    same-length-7
-    same-length-8
     returns-2)
