@@ -2,13 +2,14 @@
 use Prim.Native.Nat.{ℕ, zero, suc, _+_, _-_, _≤_, _<_}
 use mathlib.Core.Bool.{Bool, true, false, not, cond, _&&_}
 use mathlib.Core.List.{List}
+use mathlib.Core.Logic.{_≢_}
 use mathlib.Core.Path.{_≡_, refl, ap, sym, _∙_, subst}
 use native.Mathlib.Omega.{arith}
 use lib.Dec.{T}
 use borrow.Author.Tests.{lt-ltb}
 use Rattle.marking.specs.Effect.{inCycle, inMarking}
 use Rattle.marking.specs.Heap
-use Rattle.marking.specs.Ledger.{Ledger, Event, Each, empty, feed, feedAll, lastBorn}
+use Rattle.marking.specs.Ledger.{Ledger, Event, Each, empty, feed, feedAll, Reachable, lastBorn}
 use Rattle.marking.specs.Trace.{Step, Fresh}
 use Rattle.marking.specs.Trace
 use Rattle.marking.specs.Claim
@@ -26,7 +27,7 @@ use Rattle.model.specs.Bounded.{countBelow}
 use Rattle.model.specs.Memory.{Heap, words, goodBuffers, wordOf, addressOf}
 use Rattle.model.specs.Answers.{_given_}
 use Rattle.model.specs.Bitmaps.{is, allocated}
-use Rattle.model.specs.Spans.{owner, startsSpan, isUnswept}
+use Rattle.model.specs.Spans.{owner, startsSpan, isUnswept, elementWords, spanOf}
 use Rattle.model.specs.Records.{setup, fresh}
 use Rattle.model.specs.Calls.{Call, Setup, Audit, Start, ScanGlobals, MarkStep, Finish, SweepStep, Open, Close, ScanStack, Clear, Copy, Get, LoadGlobal, StoreGlobal, Allocate, Load, Store, Put, Request, step, after}
 use Rattle.model.specs.declared.Answer.{Answer}
@@ -34,39 +35,51 @@ use Rattle.model.specs.declared.Answer.the-variants.{Value}
 use Rattle.model.proofs.Tests.{of-true, is-true}
 use Rattle.model.proofs.Bounded.{count-le}
 use Rattle.model.proofs.Bitmaps.{bit-inside}
-use Rattle.model.proofs.Spans.{Spans}
+use Rattle.model.proofs.Spans.{Spans, whole}
 use Rattle.model.proofs.Facts.{Audited}
 use Rattle.model.proofs.Audit.{sized}
 use Rattle.history.specs.Ledger.{accepted, event, onPages}
-use Rattle.history.specs.Demand.{setupOf, events, eventOn, ledger, Matches, Pages, Answered, frees, freesIn, freedSince, freed, Demand}
+use Rattle.history.specs.Demand.{setupOf, events, eventOn, ledger, Matches, FreePage, Pages, Answered, frees, freesIn, freedSince, freed, Demand}
 use Rattle.history.specs.Beyond.{isAllocated, isMarked, allocatedIn, Beyond}
 use Rattle.history.proofs.Fresh.{fresh-view, fresh-kept}
-use Rattle.history.proofs.View.{view}
+use Rattle.history.proofs.View.{view, wordsAt}
 use Rattle.history.proofs.Steps.{Happens, Gives}
 use Rattle.history.proofs.Runs.{made}
 use Rattle.history.proofs.Lists.{Course, course}
 use Rattle.history.proofs.Progress.{begin-event, finishing, ending}
 
 -- the heap against the ledger, from the theory's words to the model's
-matched : (h : Heap) {L : Ledger} {n : ℕ → ℕ} → Claim.MatchesLedger (view h) L → Reached (view h) L n → Matches h L
-unfolding view Heap.wordOf
-matched h {L} M N = record {
+matched : (h : Heap) {L : Ledger} {n : ℕ → ℕ} → Claim.MatchesLedger (view h) L → Reached (view h) L n → Audited h → Matches h L
+unfolding view wordsAt Heap.wordOf
+matched h {L} M N F = record {
   stacks = λ s l. rw (lt-ltb s 16 l) at (M .opened s);
   slots = λ s i l k. rw (lt-ltb s 16 l, lt-ltb i 32 k) at (M .slots s i);
   globals = λ g l. rw (lt-ltb g 32 l) at (M .globals g);
-  address = λ x r. let l = Matches.live (N .agrees) r in let e = N .agrees .describes .address x (l .0) (N .agrees .invariant .allocatedBorn x (l .1)) in omega arith;
   bit = M .allocated;
+  inside = λ x f r l. omega (arith, N .agrees .describes .words x, element x r, whole (F .spans) (wordOf (L .address x)) (F .bits .element (wordOf (L .address x)) (M .allocated x r)), F .sized .arena);
   words = M .words;
   apart = M .apart;
+  address = λ x r. let l = Matches.live (N .agrees) r in let e = N .agrees .describes .address x (l .0) (N .agrees .invariant .allocatedBorn x (l .1)) in omega arith;
 }
+  where
+    -- a reachable record has the words of the element at its address
+    element : (x : ℕ) → Reachable L x → elementWords (h .table) (spanOf (h .table) (wordOf (L .address x))) ≡ N .layout .words x
+    element x r = rw (Matches.at-is (N .agrees) x (Matches.live (N .agrees) r)) (N .agrees .represents .placed .words x (Matches.live (N .agrees) r))
 
 -- the pages
 paged : (P : ℕ) (t : List ℕ) → Spans P t → Pages P t
 paged P t F = record {
-  inside = λ s g i. omega (arith, F .inside s (i .0));
   free = λ g e s i. absurd (omega (arith, F .body s g (i .0) (i .1) (i .2)));
-  used = λ g d. let w = F .whose g (omega arith) in (owner t g - 1, (w .0, w .1, w .2), λ r i. omega (arith, F .body r g (i .0) (i .1) (i .2)));
+  used = λ g d. let w = F .whose g (owned g d) in (owner t g - 1, (w .0, w .1, w .2), λ r i. omega (arith, F .body r g (i .0) (i .1) (i .2)));
+  zero = is-free;
+  inside = λ s g i. omega (arith, F .inside s (i .0));
 }
+  where
+    is-free : (g : ℕ) → owner t g ≡ 0 → FreePage t g
+    is-free g e = let r = F .rest g (omega arith) in (e, r .0, r .1)
+
+    owned : (g : ℕ) → ¬ (FreePage t g) → 0 < owner t g
+    owned g d = let z : owner t g ≢ 0 = λ e. d (is-free g e) in omega arith
 
 -- the answers
 answered : (c : Call) (a : Answer) (h : Heap) (L : Ledger) → T (accepted a) → Gives c a h →
@@ -205,7 +218,7 @@ module _ (P : ℕ) (h : Heap) (F : Audited (onPages P h)) (Fr : Fresh (view (onP
 
   pub demand : (rs : List Request) → Demand P h rs
   demand rs = record {
-    matches = matched (onPages P (after h rs)) (claim rs .matches) (reached-at rs);
+    matches = matched (onPages P (after h rs)) (claim rs .matches) (reached-at rs) (run-of rs .audited);
     pages = paged P (after h rs .table) (run-of rs .audited .spans);
     answers = λ p t. let before = p .before in let r = p .request in
         answered (r .call) (step (after h before) r .answer) (onPages P (step (after h before) r .heap)) (feed (eventOn (after h before) r) (ledger h before)) t

@@ -7,13 +7,13 @@ use mathlib.Core.Bool.{not, cond}
 use mathlib.Core.List.{List, [], _∷_, _++_}
 use mathlib.Core.Logic.{_≢_}
 use mathlib.Core.Path.{_≡_}
+use lib.ListN.{length}
 use lib.Dec.{T, eqb}
 use Rattle.marking.specs.Effect.{lasting, inCycle, turnedOff}
-use Rattle.marking.specs.Ledger.{Ledger, Event, effect, Each, empty, feed, feedAll, value, Reachable, lastBorn}
-use Rattle.marking.specs.Ledger as Records
+use Rattle.marking.specs.Ledger.{Ledger, Event, effect, Each, empty, feed, feedAll, value, word as ledgerWord, Reachable, lastBorn}
 use Rattle.model.specs.Memory.{Heap, word, slot, global, state, wordOf, addressOf}
 use Rattle.model.specs.Bitmaps.{is, allocated}
-use Rattle.model.specs.Spans.{owner, pageCount}
+use Rattle.model.specs.Spans.{owner, pageCount, kindEntry}
 use Rattle.model.specs.Calls.{Call, Setup, Audit, Start, ScanGlobals, MarkStep, Finish, SweepStep, Open, Close, ScanStack, Clear, Copy, Get, LoadGlobal, StoreGlobal, Allocate, Load, Store, Put, Request, step, after}
 use Rattle.model.specs.declared.Answer.{Answer}
 use Rattle.model.specs.declared.Answer.the-variants.{Value}
@@ -67,19 +67,27 @@ pub record Matches (h : Heap) (L : Ledger) : Type 0 where
   pub stacks : (s : ℕ) → s < 16 → not (eqb (state h s) 0) ≡ L .opened s
   pub slots : (s i : ℕ) → s < 16 → i < 32 → slot h s i ≡ value L (L .slot s i)
   pub globals : (g : ℕ) → g < 32 → global h g ≡ value L (L .global g)
-  pub address : (x : ℕ) → Reachable L x → L .address x ≡ addressOf (wordOf (L .address x))
   pub bit : (x : ℕ) → Reachable L x → T (is allocated h (wordOf (L .address x)))
-  pub words : (x f : ℕ) → Reachable L x → f < L .words x → word h (wordOf (L .address x) + f) ≡ Records.word L x f
+  pub inside : (x f : ℕ) → Reachable L x → f < L .words x → wordOf (L .address x) + f < length (h .arena)
+  pub words : (x f : ℕ) → Reachable L x → f < L .words x → word h (wordOf (L .address x) + f) ≡ ledgerWord L x f
   pub apart : (x y f g : ℕ) → Reachable L x → Reachable L y → x ≢ y → f < L .words x → g < L .words y → wordOf (L .address x) + f ≢ wordOf (L .address y) + g
+  -- besides: an address is that of a word
+  pub address : (x : ℕ) → Reachable L x → L .address x ≡ addressOf (wordOf (L .address x))
+
+-- "A free page is 0, 0, 0."
+abbrev pub FreePage : List ℕ → ℕ → Type 0
+FreePage t g = (owner t g ≡ 0) × (pageCount t g ≡ 0) × (kindEntry t g ≡ 0)
 
 -- "A span is a page s that holds s+1 and a count n, and has pages s to s+n-1; a free page is in none, every other in exactly one."
 abbrev pub InSpan : List ℕ → ℕ → ℕ → Type 0
 InSpan t s g = (owner t s ≡ s + 1) × (s ≤ g) × (g < s + pageCount t s)
 
 pub record Pages (P : ℕ) (t : List ℕ) : Type 0 where
+  pub free : (g : ℕ) → FreePage t g → (s : ℕ) → ¬ (InSpan t s g)
+  pub used : (g : ℕ) → ¬ (FreePage t g) → (s : ℕ) × InSpan t s g × ((r : ℕ) → InSpan t r g → r ≡ s)
+  -- besides: a page whose first number is 0 is free, and spans lie inside the arena
+  pub zero : (g : ℕ) → owner t g ≡ 0 → FreePage t g
   pub inside : (s g : ℕ) → InSpan t s g → g < P
-  pub free : (g : ℕ) → owner t g ≡ 0 → (s : ℕ) → ¬ (InSpan t s g)
-  pub used : (g : ℕ) → owner t g ≢ 0 → (s : ℕ) × InSpan t s g × ((r : ℕ) → InSpan t r g → r ≡ s)
 
 -- "Each accepted call that sets a slot answered the ledger's new value of it, and get that of its word.": L is the ledger after the call
 abbrev pub Answered : Call → Answer → Ledger → Type 0
@@ -93,7 +101,7 @@ Answered (Clear s i) a L = a ≡ Value (value L (L .slot s i))
 Answered (Load s i j f) a L = a ≡ Value (value L (L .slot s i))
 Answered (Store s j f k) a L = Unit {0}
 Answered (Put s j f v) a L = Unit {0}
-Answered (Get s j f) a L = a ≡ Value (Records.word L (L .slot s j) f)
+Answered (Get s j f) a L = a ≡ Value (ledgerWord L (L .slot s j) f)
 Answered (LoadGlobal s i g) a L = a ≡ Value (value L (L .slot s i))
 Answered (StoreGlobal s g i) a L = Unit {0}
 Answered Start a L = Unit {0}

@@ -1,7 +1,7 @@
 -- The ledger of demand 3, fed by calls: "The ledger is fed each call's arguments and, of its answer, only whether it was refused and the address
 -- that an allocation gave." The record type, its changes and what it reaches are those of the crate marking (specs/Ledger.antt there).
 use Prim.Native.Nat.{ℕ}
-use mathlib.Core.Bool.{Bool, cond}
+use mathlib.Core.Bool.{Bool, cond, _&&_}
 use lib.ListN.{getD}
 use lib.Dec.{eqb}
 use Rattle.marking.specs.Ledger.{Event}
@@ -11,15 +11,19 @@ use Rattle.model.specs.Classes.{classOf, pagesFor, elementWordsOf}
 use Rattle.model.specs.Calls.{Call, Setup, Audit, Start, ScanGlobals, MarkStep, Finish, SweepStep, Open, Close, ScanStack, Clear, Copy, Get, LoadGlobal, StoreGlobal, Allocate, Load, Store, Put}
 use Rattle.model.specs.declared.Answer.{Answer}
 
--- the refusal's number of an answer, 0 if the call was accepted, and its first value
+-- the refusal's number of an answer, 0 if the call was accepted
 abbrev pub refusal : Answer → ℕ
 refusal a = getD (numbers a) 0 0
 
+abbrev pub accepted : Answer → Bool
+accepted a = eqb (refusal a) 0
+
+-- its first value, and whether its values are 0, 0, 0
 abbrev pub firstValue : Answer → ℕ
 firstValue a = getD (numbers a) 1 0
 
-abbrev pub accepted : Answer → Bool
-accepted a = eqb (refusal a) 0
+abbrev pub allZero : Answer → Bool
+allZero a = eqb (firstValue a) 0 && eqb (getD (numbers a) 2 0) 0 && eqb (getD (numbers a) 3 0) 0
 
 -- the words "of the element that the size takes"
 abbrev pub wordsOf : ℕ → ℕ
@@ -45,7 +49,7 @@ eventOf (ScanStack s) a = Event.scanStack s
 eventOf ScanGlobals a = Event.scanGlobals
 eventOf MarkStep a = cond (eqb (firstValue a) 0) Event.noneGray Event.markStep
 eventOf Finish a = Event.finish
-eventOf SweepStep a = cond (eqb (firstValue a) 0) Event.endCycle Event.sweepStep
+eventOf SweepStep a = cond (allZero a) Event.endCycle Event.sweepStep
 
 abbrev pub event : Call → Answer → Event
 event c a = cond (accepted a) (eventOf c a) Event.refused
