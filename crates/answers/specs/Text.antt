@@ -13,7 +13,7 @@ unfoldable pub decimalIn : ℕ → ℕ → List ℕ
 decimalIn zero n = []
 decimalIn (suc k) n = if n <? 10 then (48 + n) ∷ [] else decimalIn k (n / 10) ++ ((48 + n % 10) ∷ [])
 
--- ".. below 2^64", which takes 20 places
+-- ".. below 2^64", which takes at most 20 places
 unfoldable pub decimal : ℕ → List ℕ
 decimal n = decimalIn 20 n
 

@@ -98,8 +98,8 @@ pub record Beyond (P : ℕ) (h : Heap) (rs : List Request) : Type 0 where
       0 < x → x ≤ L .count → T (isAllocated L (onPages P h₂) x) →
       (¬ (Saved es (ledger h (W .before)) x) → freesIn P x L (step h₂ (W .finish) .heap) (W .sweeping) ≡ 1) ×
       (Saved es (ledger h (W .before)) x → freesIn P x L (step h₂ (W .finish) .heap) (W .sweeping) ≡ 0)
-  -- Every cycle can be brought to its end. After the list a start is accepted, or some scans and mark steps, no more than there are stacks, one and
-  -- allocated records, make finish accepted, or some sweep steps, no more than there are pages, leave nothing to sweep.
+  -- Every cycle can be brought to its end. After the list a start is accepted, or some scans and mark steps, at most 17 (the stacks and the globals)
+  -- plus the allocated records, make finish accepted, or some sweep steps, no more than there are pages, leave nothing to sweep.
   pub phases : phase (after h rs) ≤ 2
   pub begins : phase (after h rs) ≡ 0 → eventOn (after h rs) (startOf P) ≡ Event.start
   pub finishes : phase (after h rs) ≡ 1 →

@@ -153,7 +153,7 @@ pub record Demand (P : ℕ) (h : Heap) (rs : List Request) : Type 0 where
   pub pages : Pages P (after h rs .table)
   -- at each of its calls
   pub answers : (p : Place rs) → T (accepted (answerAt h p)) → Answered (p .request .call) (answerAt h p) (ledgerAfter h p)
-  -- a sweep step that turns off the allocated bit of word w: the record last born there was born, and not freed before
+  -- a sweep step that turns off the allocated bit of word w: a record was born there, and the last of them was not freed before
   pub sweeps : (p : Place rs) → eventAt h p ≡ Event.sweepStep → (w : ℕ) → T (is allocated (heapBefore P h p) w) → T (not (is allocated (heapAfter P h p) w)) →
       let x = lastBorn (ledgerBefore h p) (addressOf w) in (0 < x) × (x ≤ ledgerBefore h p .count) × (freed P x h (p .before) ≡ 0)
   -- "In a cycle that ends within the list, each record born before the start, not freed and not reachable by then, is freed by exactly one of its

@@ -1,5 +1,6 @@
 -- The ledger of demand 3, fed by calls: "The ledger is fed each call's arguments and, of its answer, only whether it was refused and the address
--- that an allocation gave." The record type, its changes and what it reaches are those of the crate marking (specs/Ledger.antt there).
+-- that an allocation gave." For cycles and work the events also tell a mark step that answered 0, and a sweep step that answered 0, 0, 0, from the
+-- others; to the ledger both are the same. The record type, its changes and what it reaches are those of the crate marking (specs/Ledger.antt there).
 use Prim.Native.Nat.{ℕ}
 use mathlib.Core.Bool.{Bool, cond, _&&_}
 use lib.ListN.{getD}
@@ -29,7 +30,7 @@ allZero a = eqb (firstValue a) 0 && eqb (getD (numbers a) 2 0) 0 && eqb (getD (n
 abbrev pub wordsOf : ℕ → ℕ
 wordsOf size = elementWordsOf (classOf size) (pagesFor size)
 
--- an accepted call as the ledger sees it
+-- the event of an accepted call: what the ledger is fed, and of a mark step or sweep step whether it answered 0
 abbrev pub eventOf : Call → Answer → Event
 eventOf Setup a = Event.setup
 eventOf Audit a = Event.audit

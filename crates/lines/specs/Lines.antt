@@ -60,8 +60,8 @@ numbersOf (b ∷ bs) = if b == space then number bs else unread
 abbrev pub when : Bool → Line → Line
 when ok l = if ok then l else Bad
 
--- "`H P` ..; O s, C s open and close; A s i size p; M s i j copy; Z s i clear; L s i j f; S s j f k; W s j f v; R s j f; G s i g load global;
--- P s g i store to global; T start; K s, Q scan; N mark step; F finish; E sweep step": a row for each of the eighteen letters, by its byte
+-- "`H P` comes first", "O s, C s open and close; A s i size p; M s i j copy; Z s i clear; L s i j f; S s j f k; W s j f v; R s j f; G s i g load global;
+-- P s g i store to global; T start; K s, Q scan; N mark step; F finish; E sweep step.": a row for each of the eighteen letters, by its byte
 unfoldable pub lineOf : ℕ → Numbers → Line
 lineOf b n =
     if b == 72 then when (n .0 == 1) (Setup (n .1))

@@ -1,5 +1,6 @@
 -- The ledger: what the calls say of stacks, globals and records, with no heap. It is fed each call's arguments and, of its answer,
--- only whether it was refused and the address that an allocation gave. 0 is nil; k is the k-th record born.
+-- only whether it was refused and the address that an allocation gave. For cycles and work the events also tell a mark step or sweep step
+-- that answered 0 from the others; `feed` does the same with both. 0 is nil; k is the k-th record born.
 use mathlib.Core.Bool.{Bool, true, false, cond}
 use mathlib.Core.List.{List, [], _∷_}
 use Prim.Native.Nat.{ℕ, zero, suc, _<_}
@@ -18,7 +19,7 @@ pub record Ledger : Type 0 where
   pub pointer : ℕ → ℕ → ℕ
   pub number : ℕ → ℕ → ℕ
 
--- A call as the ledger sees it. endCycle: the sweep step that answers 0, 0, 0; sweepStep: any other. noneGray: the mark step that
+-- A call as an event. endCycle: the sweep step that answers 0, 0, 0; sweepStep: any other. noneGray: the mark step that
 -- answers 0; markStep: any other. An allocation comes with the words n of the element and its address a.
 pub data Event : Type 0 where
   refused setup audit start scanGlobals markStep noneGray finish sweepStep endCycle : Event

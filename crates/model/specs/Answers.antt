@@ -44,7 +44,7 @@ noRoom = 9
 abbrev pub unfinished : ℕ
 unfinished = 10
 
--- "trace program only, shown as `bad`"
+-- "trace program only, shown as `bad`": listed for the table; the trace program writes it as `bad`
 abbrev pub badLine : ℕ
 badLine = 11
 

@@ -38,7 +38,7 @@ place n pointer w = 3 * n + w
 unfoldable pub bitIn : ℕ → Part → List ℕ → ℕ → Bool
 bitIn n q b w = w <? n && bitAt b (place n q w)
 
--- the bitmaps with the bit of word w on or off
+-- the bitmaps with the bit of word w on or off, for a word inside the arena
 unfoldable pub putBit : ℕ → Part → ℕ → Bool → List ℕ → List ℕ
 putBit n q w on b = withBit (place n q w) on b
 
@@ -46,6 +46,6 @@ putBit n q w on b = withBit (place n q w) on b
 abbrev pub putBits : ℕ → Part → ℕ → ℕ → (ℕ → Bool) → List ℕ → List ℕ
 putBits n q w k value b = writeRun (putBit n q) w k value b
 
--- word w is allocated, marked, gray or a pointer in a heap
+-- the allocated, marked, gray or pointer bit of word w is on
 abbrev pub is : Part → Heap → ℕ → Bool
 is q h w = bitIn (words h) q (h .bits) w

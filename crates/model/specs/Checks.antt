@@ -15,10 +15,11 @@ buffersRefusal h = badBuffers given not (goodBuffers h)
 abbrev pub phaseRefusal : Heap → ℕ → ℕ
 phaseRefusal h ph = wrongPhase given not (phase h == ph)
 
--- 3: "number above 15; not open; for opening, already open"
+-- 3: "number above 15; not open; for opening, already open": the stack has to be open
 abbrev pub openRefusal : Heap → ℕ → ℕ
 openRefusal h s = badStack given (stacks ≤? s || state h s == closed)
 
+-- for opening: the stack has to be closed
 abbrev pub closedRefusal : Heap → ℕ → ℕ
 closedRefusal h s = badStack given (stacks ≤? s || not (state h s == closed))
 

@@ -21,7 +21,7 @@ start h =
 abbrev pub scan : ℕ → (ℕ → ℕ) → ℕ → Heap → Heap
 scan n value at h = setRoot at openState (withBits (shadeAll (h .pages) (h .table) n value (h .bits)) h)
 
--- "The answer counts the mark bits that turned on. Already scanned: 0."
+-- "The answer counts the mark bits that turned on. Already scanned: 0.", and nothing changes
 abbrev pub scanOutcome : ℕ → ℕ → (ℕ → ℕ) → ℕ → Heap → Outcome
 scanOutcome refusal n value at h =
     let unscanned = root h at == grayState in

@@ -113,6 +113,7 @@ stateAt s = firstState + s
 abbrev pub closed : ℕ
 closed = 0
 
+-- 1: open and not gray; a stack is open where its state is not 0
 abbrev pub openState : ℕ
 openState = 1
 

@@ -8,7 +8,7 @@ use Rattle.model.specs.Memory.{Heap, entryNumbers, pageOf, firstWord}
 use Rattle.model.specs.Classes.{elementWordsOf, elementsOf}
 use Rattle.model.specs.Bitmaps.{is, allocated, marked, pointer}
 
--- the entry of page g in a page table t: "s+1, its page count, its kind"
+-- the entry of page g in a page table t: "s+1, its page count, its kind"; owner: start page + 1 of the page's span, 0 for none
 unfoldable pub owner : List ℕ → ℕ → ℕ
 owner t g = getD t (entryNumbers * g) 0
 
@@ -37,6 +37,7 @@ putPages s n entry t = writeRun putPage s n entry t
 abbrev pub freePage : Entry
 freePage = record { owner = 0; count = 0; kind = 0 }
 
+-- told by the first number; the audit sees to the other two
 abbrev pub isFree : List ℕ → ℕ → Bool
 isFree t g = owner t g == 0
 
@@ -96,7 +97,7 @@ inElement t w = not (isFree t (pageOf w)) && elementNumber t (spanOf t w) w <? e
 abbrev pub startsElement : List ℕ → ℕ → Bool
 startsElement t w = inElement t w && elementOf t w == w
 
--- word w holds a pointer
+-- word w is a pointer word: its pointer bit is on
 abbrev pub isPointer : Heap → ℕ → Bool
 isPointer h w = is pointer h w
 

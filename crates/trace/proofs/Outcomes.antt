@@ -18,7 +18,7 @@ use Rattle.lines.specs.declared.Line.the-variants.{Bad, Setup, Call}
 use Rattle.lines.proofs.Line.{enum}
 use Rattle.answers.specs.Text.{answerText, badText, Wrote}
 use Rattle.answers.proofs.Bytes.{answer-length, bad-length}
-use Rattle.trace.specs.Play.{answered, isBad, accepted, inReach, setupRefused, setupOf, withPages, first, later, pagesOf, Plays}
+use Rattle.trace.specs.Play.{answered, playedBad, accepted, inReach, setupRefused, setupOf, withPages, first, later, pagesOf, Plays}
 
 -- a call was made and its answer written
 pub plays : {o : Outcome} {answer : Answer} {a t b s x y : List ℕ} {at e : ℕ} (more : Bool) → Meets o answer a t b s → Wrote (answerText answer) at x y e → Plays (answered o more) at x y (record { at = e; more = more }) a t b s
@@ -33,7 +33,7 @@ plays {o} {answer} {a} {t} {b} {s} {x} {y} {at} {e} more m w = record {
 }
 
 -- nothing changed, and `bad` written
-pub plays-bad : {h : Heap} {x y : List ℕ} {at e : ℕ} (number : ℕ) → Wrote (badText number) at x y e → Plays (isBad number h) at x y (record { at = e; more = false }) (h .arena) (h .table) (h .bits) (h .roots)
+pub plays-bad : {h : Heap} {x y : List ℕ} {at e : ℕ} (number : ℕ) → Wrote (badText number) at x y e → Plays (playedBad number h) at x y (record { at = e; more = false }) (h .arena) (h .table) (h .bits) (h .roots)
 plays-bad {h} {x} {y} {at} {e} number w = record {
   written = w;
   room = omega (arith, w .end, bad-length number);
@@ -77,7 +77,7 @@ plays-setup {answer} {a} {t} {b} {s} {x} {y} {at} {e} {more} h p r m k w =
     rw r (record { written = q .written; room = q .room; more = rw (← m .answer) k; arena = q .arena; table = q .table; bits = q .bits; roots = q .roots })
 
 -- a first line that is not H, and a later line that is no call
-pub not-setup : (l : Line) → (tagOf (declared enum) l ≡ 0) ⊎ (tagOf (declared enum) l ≡ 2) → (h : Heap) → first l h ≡ isBad 1 h
+pub not-setup : (l : Line) → (tagOf (declared enum) l ≡ 0) ⊎ (tagOf (declared enum) l ≡ 2) → (h : Heap) → first l h ≡ playedBad 1 h
 not-setup Bad k h = refl
 not-setup (Setup p) k h = absurd (⊎-elim (λ e. omega arith) (λ e. omega arith) k)
 not-setup (Call c) k h = refl
@@ -87,7 +87,7 @@ no-pages Bad k = refl
 no-pages (Setup p) k = absurd (⊎-elim (λ e. omega arith) (λ e. omega arith) k)
 no-pages (Call c) k = refl
 
-pub not-call : (l : Line) → (tagOf (declared enum) l ≡ 0) ⊎ (tagOf (declared enum) l ≡ 1) → (number : ℕ) (h : Heap) → later l number h ≡ isBad number h
+pub not-call : (l : Line) → (tagOf (declared enum) l ≡ 0) ⊎ (tagOf (declared enum) l ≡ 1) → (number : ℕ) (h : Heap) → later l number h ≡ playedBad number h
 not-call Bad k number h = refl
 not-call (Setup p) k number h = refl
 not-call (Call c) k number h = absurd (⊎-elim (λ e. omega arith) (λ e. omega arith) k)

@@ -25,8 +25,8 @@ abbrev pub answered : Outcome → Bool → Played
 answered o more = record { text = answerText (o .answer); heap = o .heap; more = more }
 
 -- "A line that does not read prints `bad` and its line number (from 1) and the run ends there"
-abbrev pub isBad : ℕ → Heap → Played
-isBad number h = record { text = badText number; heap = h; more = false }
+abbrev pub playedBad : ℕ → Heap → Played
+playedBad number h = record { text = badText number; heap = h; more = false }
 
 abbrev pub accepted : Answer → Bool
 accepted (Refused n) = false
@@ -52,14 +52,14 @@ setupOf p h =
 
 -- "`H P` comes first"; "so does .. a first line that is not H"
 abbrev pub first : Line → Heap → Played
-first Bad h = isBad 1 h
+first Bad h = playedBad 1 h
 first (Setup p) h = setupOf p h
-first (Call c) h = isBad 1 h
+first (Call c) h = playedBad 1 h
 
 -- ".. and only once"; "or a later H"
 abbrev pub later : Line → ℕ → Heap → Played
-later Bad number h = isBad number h
-later (Setup p) number h = isBad number h
+later Bad number h = playedBad number h
+later (Setup p) number h = playedBad number h
 later (Call c) number h = answered (model.run h (callOf c)) true
 
 -- how many pages the first line asks for, 0 where it asks for none that can be had
@@ -68,7 +68,8 @@ pagesOf Bad = 0
 pagesOf (Setup p) = if inReach p then p else 0
 pagesOf (Call c) = 0
 
--- what the work of a line promises: the bytes that it wrote from `at` on, no more than a line has, whether the run goes on, and the four buffers
+-- what the work of a line promises: the bytes that it wrote from `at` on, at most 66, the longest answer line, whether the run goes on, and the four
+-- buffers
 pub record Plays (o : Played) (at : ℕ) (entry exit : List ℕ) (r : Step) (a t b s : List ℕ) : Type 0 where
   pub written : Wrote (o .text) at entry exit (r .at)
   pub room : r .at ≤ at + 66
