@@ -1,7 +1,7 @@
 -- DEMAND 3, proved: the claim of specs/Demand.antt, of every list of requests after an accepted setup.
 use Prim.Native.Nat.{ℕ, zero, suc, _+_, _-_, _≤_, _<_}
 use mathlib.Core.Bool.{Bool, true, false, not, cond, _&&_}
-use mathlib.Core.List.{List}
+use mathlib.Core.List.{List, [], _∷_, _++_}
 use mathlib.Core.Logic.{_≢_}
 use mathlib.Core.Path.{_≡_, refl, ap, sym, _∙_, subst}
 use native.Mathlib.Omega.{arith}
@@ -45,7 +45,7 @@ use Rattle.history.proofs.Fresh.{fresh-view, fresh-kept}
 use Rattle.history.proofs.View.{view, wordsAt}
 use Rattle.history.proofs.Steps.{Happens, Gives}
 use Rattle.history.proofs.Runs.{made}
-use Rattle.history.proofs.Lists.{Course, course}
+use Rattle.history.proofs.Lists.{Course, course, to-end}
 use Rattle.history.proofs.Progress.{begin-event, finishing, ending}
 
 -- the heap against the ledger, from the theory's words to the model's
@@ -223,22 +223,20 @@ module _ (P : ℕ) (h : Heap) (F : Audited (onPages P h)) (Fr : Fresh (view (onP
     answers = λ p t. let before = p .before in let r = p .request in
         answered (r .call) (step (after h before) r .answer) (onPages P (step (after h before) r .heap)) (feed (eventOn (after h before) r) (ledger h before)) t
         (next before r .said t) (claim before .answers (next before r .step));
-    sweeps = λ p e w a b. frees-at (p .before) (p .request) e w a b;
-    cycles = λ C x z k f u. inner (C .before) (C .first) (C .starts) (C .between) .during x
+    sweeps = λ p e w a b. frees-at (p .before) w a;
+    cycles = λ C x z k f u. to-end (inner (C .before) (C .first) (C .starts) (C .between)) x (C .last) (C .ends)
         ∙ claim (C .before) .cycles (next-is (C .before) (C .first) Event.start (C .starts)) (inner (C .before) (C .first) (C .starts) (C .between) .steps) (C .lasts)
         (inner-next (C .before) (C .first) (C .starts) (C .between) (C .last) Event.endCycle (C .ends)) x z k (sym (run-of (C .before) .since x) ∙ f) u;
   }
     where
-      frees-at : (before : List Request) (r : Request) → eventOn (after h before) r ≡ Event.sweepStep →
-          (w : ℕ) → T (is allocated (onPages P (after h before)) w) → T (not (is allocated (onPages P (step (after h before) r .heap)) w)) →
+      -- where an allocated bit is on, a record was born, and the last of them was not freed
+      frees-at : (before : List Request) (w : ℕ) → T (is allocated (onPages P (after h before)) w) →
           let x = lastBorn (ledger h before) (addressOf w) in (0 < x) × (x ≤ ledger h before .count) × (freed P x h before ≡ 0)
-      frees-at before r p w a b =
-          let y = seen w a b in
-          (y .0, y .1, run-of before .since (lastBorn (ledger h before) (addressOf w)) ∙ y .2)
+      frees-at before w a = let y = seen in (y .0, y .1, run-of before .since (lastBorn (ledger h before) (addressOf w)) ∙ y .2)
         where
-          seen : (w : ℕ) → T (is allocated (onPages P (after h before)) w) → T (not (is allocated (onPages P (step (after h before) r .heap)) w)) →
-              let x = lastBorn (ledger h before) (addressOf w) in (0 < x) × (x ≤ ledger h before .count) × (Claim.freedSince x 0 empty (run-of before .steps) ≡ 0)
-          seen w a b = unfold view in claim before .frees (next-is before r Event.sweepStep p) w a b
+          seen : let x = lastBorn (ledger h before) (addressOf w) in
+              (0 < x) × (x ≤ ledger h before .count) × (Claim.freedSince x 0 empty (run-of before .steps) ≡ 0)
+          seen = unfold view in claim before .frees w a
 
   pub beyond : (rs : List Request) → Beyond P h rs
   beyond rs = record {
@@ -281,8 +279,8 @@ module _ (P : ℕ) (h : Heap) (F : Audited (onPages P h)) (Fr : Fresh (view (onP
           let h₂ = after h₁ between in let es = events h₁ between in let L = feedAll es (ledger h before) in
           Each inMarking es → (finish : Request) (q : eventOn h₂ finish ≡ Event.finish) (sweeping : List Request) → Each inCycle (events (step h₂ finish .heap) sweeping) →
           (last : Request) → eventOn (after (step h₂ finish .heap) sweeping) last ≡ Event.endCycle → (x : ℕ) → 0 < x → x ≤ L .count → T (isAllocated L (onPages P h₂) x) →
-          (¬ (Saved es (ledger h before) x) → freesIn P x L (step h₂ finish .heap) sweeping ≡ 1) ×
-          (Saved es (ledger h before) x → freesIn P x L (step h₂ finish .heap) sweeping ≡ 0)
+          (¬ (Saved es (ledger h before) x) → freesIn P x L (step h₂ finish .heap) (sweeping ++ (last ∷ [])) ≡ 1) ×
+          (Saved es (ledger h before) x → freesIn P x L (step h₂ finish .heap) (sweeping ++ (last ∷ [])) ≡ 0)
       exact-at before first p between w finish q sweeping v last y x z k a =
           let c = inner before first p between in
           let d = swept before first p between finish q sweeping in
@@ -290,7 +288,7 @@ module _ (P : ℕ) (h : Heap) (F : Audited (onPages P h)) (Fr : Fresh (view (onP
           (d .steps) v (swept-next before first p between finish q sweeping last Event.endCycle y) x z k
           (seen-allocated (feedAll (events (step (after h before) first .heap) between) (ledger h before))
           (onPages P (after (step (after h before) first .heap) between)) x a) in
-          (λ u. d .during x ∙ r .0 u, λ u. d .during x ∙ r .1 u)
+          (λ u. to-end d x last y ∙ r .0 u, λ u. to-end d x last y ∙ r .1 u)
 
 -- THE THEOREM: after an accepted setup in any buffers h, for P pages, every list of requests
 pub demand-3 : (h : Heap) (P : ℕ) → T (accepted (step h (setupOf P) .answer)) → (rs : List Request) →

@@ -96,8 +96,8 @@ pub record Beyond (P : ℕ) (h : Heap) (rs : List Request) : Type 0 where
       let es = events h₁ (W .marking) in
       let L = feedAll es (ledger h (W .before)) in
       0 < x → x ≤ L .count → T (isAllocated L (onPages P h₂) x) →
-      (¬ (Saved es (ledger h (W .before)) x) → freesIn P x L (step h₂ (W .finish) .heap) (W .sweeping) ≡ 1) ×
-      (Saved es (ledger h (W .before)) x → freesIn P x L (step h₂ (W .finish) .heap) (W .sweeping) ≡ 0)
+      (¬ (Saved es (ledger h (W .before)) x) → freesIn P x L (step h₂ (W .finish) .heap) (W .sweeping ++ (W .last ∷ [])) ≡ 1) ×
+      (Saved es (ledger h (W .before)) x → freesIn P x L (step h₂ (W .finish) .heap) (W .sweeping ++ (W .last ∷ [])) ≡ 0)
   -- Every cycle can be brought to its end. After the list a start is accepted, or some scans and mark steps, at most 17 (the stacks and the globals)
   -- plus the allocated records, make finish accepted, or some sweep steps, no more than there are pages, leave nothing to sweep.
   pub phases : phase (after h rs) ≤ 2

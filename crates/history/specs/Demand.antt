@@ -68,8 +68,10 @@ pub record Matches (h : Heap) (L : Ledger) : Type 0 where
   pub slots : (s i : ℕ) → s < 16 → i < 32 → slot h s i ≡ value L (L .slot s i)
   pub globals : (g : ℕ) → g < 32 → global h g ≡ value L (L .global g)
   pub bit : (x : ℕ) → Reachable L x → T (is allocated h (wordOf (L .address x)))
+  -- "its words from its address on": words of the arena, and equal
   pub inside : (x f : ℕ) → Reachable L x → f < L .words x → wordOf (L .address x) + f < length (h .arena)
   pub words : (x f : ℕ) → Reachable L x → f < L .words x → word h (wordOf (L .address x) + f) ≡ ledgerWord L x f
+  -- "no two such records share a word"
   pub apart : (x y f g : ℕ) → Reachable L x → Reachable L y → x ≢ y → f < L .words x → g < L .words y → wordOf (L .address x) + f ≢ wordOf (L .address y) + g
   -- besides: an address is that of a word
   pub address : (x : ℕ) → Reachable L x → L .address x ≡ addressOf (wordOf (L .address x))
@@ -154,9 +156,9 @@ pub record Demand (P : ℕ) (h : Heap) (rs : List Request) : Type 0 where
   -- at each of its calls
   pub answers : (p : Place rs) → T (accepted (answerAt h p)) → Answered (p .request .call) (answerAt h p) (ledgerAfter h p)
   -- a sweep step that turns off the allocated bit of word w: a record was born there, and the last of them was not freed before
-  pub sweeps : (p : Place rs) → eventAt h p ≡ Event.sweepStep → (w : ℕ) → T (is allocated (heapBefore P h p) w) → T (not (is allocated (heapAfter P h p) w)) →
+  pub sweeps : (p : Place rs) → p .request .call ≡ SweepStep → (w : ℕ) → T (is allocated (heapBefore P h p) w) → T (not (is allocated (heapAfter P h p) w)) →
       let x = lastBorn (ledgerBefore h p) (addressOf w) in (0 < x) × (x ≤ ledgerBefore h p .count) × (freed P x h (p .before) ≡ 0)
   -- "In a cycle that ends within the list, each record born before the start, not freed and not reachable by then, is freed by exactly one of its
   -- sweep steps."
   pub cycles : (C : Cycle h rs) (x : ℕ) → let L = ledger h (C .before) in 0 < x → x ≤ L .count → freed P x h (C .before) ≡ 0 → ¬ (Reachable L x) →
-      freesIn P x L (step (after h (C .before)) (C .first) .heap) (C .between) ≡ 1
+      freesIn P x L (step (after h (C .before)) (C .first) .heap) (C .between ++ (C .last ∷ [])) ≡ 1

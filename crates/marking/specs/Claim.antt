@@ -5,7 +5,7 @@ use mathlib.Core.Logic.{_≢_}
 use mathlib.Core.List.{List, [], _∷_}
 use Prim.Native.Nat.{ℕ, suc, _+_, _≤_, _<_}
 use lib.Dec.{T, eqb}
-use Rattle.marking.specs.Effect.{lasting, inCycle, inMarking, turnedOff, work}
+use Rattle.marking.specs.Effect.{lasting, inCycle, inMarking, isSweep, turnedOff, work}
 use Rattle.marking.specs.Count.{count}
 use Rattle.marking.specs.Heap.{addressOf, Heap, wordOf}
 use Rattle.marking.specs.Ledger.{Ledger, Event, effect, Each, feed, feedAll, value, word, Reachable, lastBorn}
@@ -73,6 +73,10 @@ unfoldable pub freedDuring : {H H′ : Heap} {es : List Event} → ℕ → Ledge
 freedDuring x L ready = 0
 freedDuring x L (more {H} {H₁} {H₂} {e} {es} s ss) = freedIn x L H e H₁ + freedDuring x (feed e L) ss
 
+-- .. how often they do and the sweep step that ends a cycle after them, which leaves the heap E
+abbrev pub freedToEnd : {H H′ : Heap} {es : List Event} → ℕ → Ledger → Steps H es H′ → Heap → ℕ
+freedToEnd {H} {H′} {es} x L ss E = freedDuring x L ss + freedIn x (feedAll es L) H′ Event.endCycle E
+
 -- .. and how often they have since the last setup, where it was n before the list
 unfoldable pub freedSince : {H H′ : Heap} {es : List Event} → ℕ → ℕ → Ledger → Steps H es H′ → ℕ
 freedSince x n L ready = n
@@ -93,16 +97,17 @@ pub record Demand (H : Heap) (L : Ledger) (n : ℕ → ℕ) : Type 0 where
   pub matches : MatchesLedger H L
   -- "Each accepted call that sets a slot answered the ledger's new value of it, and get that of its word."
   pub answers : {e : Event} {H′ : Heap} → Step H e H′ → given (answer e) H′ ≡ expected (answer e) (feed e L)
-  -- "A sweep step that turns off the allocated bit at an address frees the record last born there.": one was born there, and not freed before
-  pub frees : {H′ : Heap} → Step H Event.sweepStep H′ → (w : ℕ) → T (H .allocated w) → T (not (H′ .allocated w)) →
+  -- "A sweep step that turns off the allocated bit at an address frees the record last born there.": where a bit is on one was
+  -- born, and not freed before; a sweep step that turns it off frees that record
+  pub frees : (w : ℕ) → T (H .allocated w) →
       (0 < lastBorn L (addressOf w)) × (lastBorn L (addressOf w) ≤ L .count) × (n (lastBorn L (addressOf w)) ≡ 0)
-  pub freed : {H′ : Heap} → Step H Event.sweepStep H′ → (w : ℕ) → T (H .allocated w) → T (not (H′ .allocated w)) →
-      freedIn (lastBorn L (addressOf w)) L H Event.sweepStep H′ ≡ 1
+  pub freed : {e : Event} {H′ : Heap} → Step H e H′ → T (isSweep (effect e)) → (w : ℕ) → T (H .allocated w) → T (not (H′ .allocated w)) →
+      freedIn (lastBorn L (addressOf w)) L H e H′ ≡ 1
   -- "In a cycle that ends within the list, each record born before the start, not freed and not reachable by then, is freed by exactly
   -- one of its sweep steps."
   pub cycles : {H₁ H₂ H₃ : Heap} {es : List Event} → Step H Event.start H₁ → (ss : Steps H₁ es H₂) → Each inCycle es →
       Step H₂ Event.endCycle H₃ →
-      (x : ℕ) → 0 < x → x ≤ L .count → n x ≡ 0 → ¬ (Reachable L x) → freedDuring x L ss ≡ 1
+      (x : ℕ) → 0 < x → x ≤ L .count → n x ≡ 0 → ¬ (Reachable L x) → freedToEnd x L ss H₃ ≡ 1
   -- "No cycle has more mark steps that do work than there are records allocated at its finish."
   pub works : {H₁ H₂ H₃ : Heap} {es : List Event} → Step H Event.start H₁ → (ss : Steps H₁ es H₂) → Each inMarking es →
       Step H₂ Event.finish H₃ →

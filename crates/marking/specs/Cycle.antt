@@ -199,7 +199,11 @@ fate (allocate t i p) S I = goes-on tt (record {
 })
 fate start S I = goes-on tt (unchanged S (run start S) refl refl)
 fate finish S I = goes-on tt (unchanged S (run finish S) refl refl)
-fate endCycle S I = goes-on tt (unchanged S (run endCycle S) refl refl)
+fate endCycle S I = goes-on tt (record {
+  grows = omega arith;
+  newborn = λ x h k. absurd (omega arith);
+  account = λ x l. count-one (S .allocated x) (S .allocated x) (λ a. a);
+})
 fate (scanStack t) S I = goes-on tt (unchanged S (run (scanStack t) S) refl refl)
 fate scanGlobals S I = goes-on tt (unchanged S (run scanGlobals S) refl refl)
 fate (markStep y) S I = goes-on tt (unchanged S (run (markStep y) S) refl refl)

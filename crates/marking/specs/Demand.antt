@@ -7,7 +7,7 @@ use Prim.Native.Nat.{ℕ, suc, _≤_, _<_}
 use native.Mathlib.Omega.{arith}
 use lib.Dec.{T, eqb}
 use Rattle.marking.specs.Updates.{of-true, of-false, eqb-yes}
-use Rattle.marking.specs.Effect.{inCycle, inMarking, asNumber, inCycle-lasting, inMarking-lasting}
+use Rattle.marking.specs.Effect.{inCycle, inMarking, isSweep, asNumber, turnedOff, inCycle-lasting, inMarking-lasting}
 use Rattle.marking.specs.Calls
 use Rattle.marking.specs.Calls.{State, marking, run, runs}
 use Rattle.marking.specs.Safety.{run-keeps}
@@ -16,14 +16,14 @@ use Rattle.marking.specs.Work.{work-bounded}
 use Rattle.marking.specs.Cycle.{freed-once, start-born}
 use Rattle.marking.specs.Heap.{addressOf, wordOf, Heap}
 use Rattle.marking.specs.Represents.{Layout, Live}
-use Rattle.marking.specs.Ledger.{Ledger, Event, Each, feed, feedAll, empty, Reachable, lastBorn}
+use Rattle.marking.specs.Ledger.{Ledger, Event, effect, Each, feed, feedAll, empty, Reachable, lastBorn}
 use Rattle.marking.specs.Trace.{Step, Steps, setup, start, endCycle, get}
 use Rattle.marking.specs.Trace
 use Rattle.marking.specs.Agreement.{Agrees}
 use Rattle.marking.specs.Refinement.{after, agree, phased, step-start, step-endCycle}
-use Rattle.marking.specs.Claim.{Demand, freedIn, answer, given, expected, freedDuring, freedSince, isAllocated, workIn}
+use Rattle.marking.specs.Claim.{Demand, freedIn, answer, given, expected, freedDuring, freedToEnd, freedSince, isAllocated, workIn}
 use Rattle.marking.specs.Matches.{matches, back, got, at-is}
-use Rattle.marking.specs.Freed.{Reached, reached, fresh-reached, Within, within, last-is, Tally, isAllocated-is}
+use Rattle.marking.specs.Freed.{Reached, reached, fresh-reached, Within, within, last-is, Tally, isAllocated-is, end-frees}
 
 start-marks : (S : State) → T (marking ((run Calls.start S) .phase))
 unfolding run
@@ -61,14 +61,18 @@ module _ {H : Heap} {L : Ledger} {S : State} {Y : Layout} (R : Agrees H L S Y) w
   -- a cycle: start, calls that neither end it nor break it off, and the sweep step that ends it
   cycle : {H₁ H₂ H₃ : Heap} {es : List Event} → Step H Event.start H₁ → (ss : Steps H₁ es H₂) → Each inCycle es →
       Step H₂ Event.endCycle H₃ →
-      (x : ℕ) → 0 < x → x < S .graph .born → T (S .allocated x) → ¬ (Reachable L x) → freedDuring x L ss ≡ 1
+      (x : ℕ) → 0 < x → x < S .graph .born → T (S .allocated x) → ¬ (Reachable L x) → freedToEnd x L ss H₃ ≡ 1
   cycle {H₁} {H₂} {H₃} {es} (start A p) ss w (endCycle B q f) x h k a u = go
       (within inCycle inCycle-lasting ss w (agree R (step-start R A p)))
     where
-      go : Within inCycle (workIn es) H₂ (feedAll es L) (run Calls.start S) (λ x. freedDuring x L ss) → freedDuring x L ss ≡ 1
-      go W = W .frees x h (omega (arith, start-born S)) ∙
-          freed-once S (R .invariant) (W .calls) (W .each) (step-start R A p .allowed) (W .allowed) (step-endCycle (W .agrees) B q f .allowed) x k a
-          (λ r. elim (back R r) [ inl e ↦ omega arith | inr y ↦ u y ])
+      go : Within inCycle (workIn es) H₂ (feedAll es L) (run Calls.start S) (λ x. freedDuring x L ss) → freedToEnd x L ss H₃ ≡ 1
+      go W = omega (
+        arith,
+        W .frees x h (omega (arith, start-born S)),
+        freed-once S (R .invariant) (W .calls) (W .each) (step-start R A p .allowed) (W .allowed) (step-endCycle (W .agrees) B q f .allowed) x k a
+            (λ r. elim (back R r) [ inl e ↦ omega arith | inr y ↦ u y ]),
+        end-frees x (feedAll es L) (endCycle B q f),
+      )
 
   -- the mark steps that do work, up to the finish
   bound : {H₁ H₂ H₃ : Heap} {es : List Event} → Step H Event.start H₁ → (ss : Steps H₁ es H₂) → Each inMarking es →
@@ -106,14 +110,14 @@ module _ {H : Heap} {L : Ledger} {S : State} {Y : Layout} (R : Agrees H L S Y) w
           let b = R .invariant .allocatedBorn x (l .1) in
           (l .0, omega (arith, R .describes .born), omega (arith, rw (of-true (S .allocated x) (l .1)) at (t x (l .0) .0 b)))
 
-  freed : (H′ : Heap) (w : ℕ) → T (H .allocated w) → T (not (H′ .allocated w)) →
-      freedIn (lastBorn L (addressOf w)) L H Event.sweepStep H′ ≡ 1
+  freed : (e : Event) → T (isSweep (effect e)) → (H′ : Heap) (w : ℕ) → T (H .allocated w) → T (not (H′ .allocated w)) →
+      freedIn (lastBorn L (addressOf w)) L H e H′ ≡ 1
   unfolding freedIn
-  freed H′ w a d = go (lastBorn L (addressOf w)) (at-bit w a)
+  freed e t H′ w a d = go (lastBorn L (addressOf w)) (at-bit w a)
     where
       go : (x : ℕ) → Live (S .allocated) x × (Y .at x ≡ w) →
-          cond (eqb (lastBorn L (L .address x)) x) (asNumber (H .allocated (wordOf (L .address x)) && not (H′ .allocated (wordOf (L .address x))))) 0 ≡ 1
-      go x l = rw (last-is R x (l .0), eqb-yes x, at-is R x (l .0), l .1, of-true (H .allocated w) a, of-false (H′ .allocated w) d)
+          cond (eqb (lastBorn L (L .address x)) x) (turnedOff (effect e) (H .allocated (wordOf (L .address x))) (H′ .allocated (wordOf (L .address x)))) 0 ≡ 1
+      go x l = rw (last-is R x (l .0), eqb-yes x, of-true (isSweep (effect e)) t, at-is R x (l .0), l .1, of-true (H .allocated w) a, of-false (H′ .allocated w) d)
 
 one-true : (b : Bool) → asNumber b ≡ 1 → T b
 one-true true e = tt
@@ -124,8 +128,8 @@ pub reached-demand : {H : Heap} {L : Ledger} {n : ℕ → ℕ} → Reached H L n
 reached-demand {H} {L} {n} N = record {
   matches = matches (N .agrees);
   answers = λ s. answers (N .agrees) s;
-  frees = λ s w a _. frees (N .agrees) n (N .tally) w a;
-  freed = λ {H′} s w a d. freed (N .agrees) H′ w a d;
+  frees = frees (N .agrees) n (N .tally);
+  freed = λ {e} {H′} s t w a d. freed (N .agrees) e t H′ w a d;
   works = λ s ss w t. bound (N .agrees) s ss w t;
   cycles = λ s ss w t x h k f u. let b : x < N .state .graph .born = omega (arith, N .agrees .describes .born) in
       cycle (N .agrees) s ss w t x h b (one-true (N .state .allocated x) (omega (arith, N .tally x h .0 b, f))) u;

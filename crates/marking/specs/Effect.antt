@@ -4,7 +4,7 @@ use mathlib.Core.Bool.{Bool, true, false, not, _&&_}
 use Prim.Native.Nat.{ℕ}
 use lib.Dec.{T}
 
--- works: a mark step that takes a gray record
+-- works: a mark step that takes a gray record. ends: the sweep step that ends a cycle; sweeps: any other
 pub data Effect : Type 0 where
   none setsUp starts works finishes sweeps ends : Effect
 
@@ -42,15 +42,19 @@ abbrev pub asNumber : Bool → ℕ
 asNumber true = 1
 asNumber false = 0
 
+-- a sweep step, the one that ends a cycle among them
+abbrev pub isSweep : Effect → Bool
+isSweep none = false
+isSweep setsUp = false
+isSweep starts = false
+isSweep works = false
+isSweep finishes = false
+isSweep sweeps = true
+isSweep ends = true
+
 -- only a sweep step frees: what was allocated and is no more
 abbrev pub turnedOff : Effect → Bool → Bool → ℕ
-turnedOff none before after = 0
-turnedOff setsUp before after = 0
-turnedOff starts before after = 0
-turnedOff works before after = 0
-turnedOff finishes before after = 0
-turnedOff sweeps before after = asNumber (before && not after)
-turnedOff ends before after = 0
+turnedOff e before after = asNumber (isSweep e && before && not after)
 
 -- mark steps that do work
 abbrev pub work : Effect → ℕ

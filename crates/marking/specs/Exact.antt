@@ -21,12 +21,12 @@ use Rattle.marking.specs.Represents.{Layout, Live}
 use Rattle.marking.specs.Ledger.{Ledger, Event, effect, Each, feed, feedAll, empty}
 use Rattle.marking.specs.Trace
 use Rattle.marking.specs.Trace.{Step, Steps, ready, more}
-use Rattle.marking.specs.Claim.{isAllocated, workIn, freedDuring}
+use Rattle.marking.specs.Claim.{isAllocated, workIn, freedDuring, freedToEnd}
 use Rattle.marking.specs.Agreement.{Agrees}
 use Rattle.marking.specs.Refinement
 use Rattle.marking.specs.Refinement.{Becomes, agree, slot-record}
 use Rattle.marking.specs.Matches.{at-is}
-use Rattle.marking.specs.Freed.{isAllocated-is, Within, within, reached, fresh-reached}
+use Rattle.marking.specs.Freed.{isAllocated-is, Within, within, reached, fresh-reached, end-frees}
 use Rattle.marking.specs.Saving.{Saving, With, save-plain, save-shades, save-birth, save-store}
 use Rattle.marking.specs.Survivors.{From, itself, field, Saves, SavedBy, Saved, isMarked, Exact}
 
@@ -270,15 +270,15 @@ module _ {K : ℕ → Type 0} {H : Heap} {L : Ledger} {S : State} {Y : Layout} (
     W : Within inCycle (workIn fs) H₄ (feedAll fs L) (run Calls.finish S) (λ x. freedDuring x L ss)
     W = within inCycle inCycle-lasting ss w (agree R B)
 
-    frees : freedDuring x L ss ≡ freedByAll x (W .calls) (run Calls.finish S)
-    frees = W .frees x z (rw (finish-born S) k)
+    frees : freedToEnd x L ss H₅ ≡ freedByAll x (W .calls) (run Calls.finish S)
+    frees = omega (arith, W .frees x z (rw (finish-born S) k), end-frees x (feedAll fs L) t)
 
-    frees-lost : ¬ (K x) → freedDuring x L ss ≡ 1
+    frees-lost : ¬ (K x) → freedToEnd x L ss H₅ ≡ 1
     frees-lost u = frees ∙ freed-one (run Calls.finish S) (run-keeps Calls.finish S p (R .invariant)) (W .calls) (W .each) (W .allowed)
         (ends t (W .agrees)) x (rw (finish-allocated S) a)
         (cycle-finish S (R .invariant) p) k (λ d. u (Z .marked x z d))
 
-    frees-saved : K x → freedDuring x L ss ≡ 0
+    frees-saved : K x → freedToEnd x L ss H₅ ≡ 0
     frees-saved s = frees ∙ freed-none (run Calls.finish S) (run-keeps Calls.finish S p (R .invariant)) (W .calls) (W .each) (W .allowed)
         (ends t (W .agrees)) x (rw (finish-allocated S) a)
         (finish-sweeps S) (rw (finish-kept S) (saved-marked x s))
@@ -299,7 +299,7 @@ reached-exact {H} {L} R = record { marked = marked; freed = freed }
         Step H₂ Event.finish H₃ →
         (ss : Steps H₃ fs H₄) → Each inCycle fs → Step H₄ Event.endCycle H₅ →
         (x : ℕ) → 0 < x → x ≤ feedAll es L .count → T (isAllocated (feedAll es L) H₂ x) →
-        (¬ (Saved es L x) → freedDuring x (feedAll es L) ss ≡ 1) × (Saved es L x → freedDuring x (feedAll es L) ss ≡ 0)
+        (¬ (Saved es L x) → freedToEnd x (feedAll es L) ss H₅ ≡ 1) × (Saved es L x → freedToEnd x (feedAll es L) ss H₅ ≡ 0)
     freed s rs v (Trace.finish u A p g gg gs h) ss w t x z k a =
         let N = saves-all rs v (start-kept R s) in
         let B = Refinement.step-finish (N .agrees) u A p g gg gs h in

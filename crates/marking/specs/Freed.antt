@@ -12,10 +12,10 @@ use Rattle.marking.specs.Effect.{Effect, lasting, turnedOff, asNumber, w
 use Rattle.marking.specs.Calls.{State, Call, run, runs, initial, AllAllowed, callEffect, EachCall, freedBy, freedByAll}
 use Rattle.marking.specs.Cycle.{Counted, Fate, anew, goes-on, fate, counted}
 use Rattle.marking.specs.Work.{works}
-use Rattle.marking.specs.Heap.{Heap, wordOf}
+use Rattle.marking.specs.Heap.{Heap, wordOf, heapEndCycle}
 use Rattle.marking.specs.Represents.{Layout, Live}
 use Rattle.marking.specs.Ledger.{Ledger, Event, effect, Each, feed, feedAll, empty, lastOf, lastBorn}
-use Rattle.marking.specs.Trace.{Fresh, Step, Steps, ready, more}
+use Rattle.marking.specs.Trace.{Fresh, Step, Steps, ready, more, endCycle}
 use Rattle.marking.specs.Agreement.{Agrees, noLayout, fresh-agrees}
 use Rattle.marking.specs.Refinement.{abstract-step, after}
 use Rattle.marking.specs.Claim.{isAllocated, workIn, freedIn, freedDuring, freedSince}
@@ -108,7 +108,17 @@ module _ (x : ℕ) (L : Ledger) (H H′ : Heap) where
   shown Event.noneGray p q = cond-same last
   shown Event.finish p q = cond-same last
   shown Event.sweepStep p q = rw (← p, ← q) (turn last (H .allocated (wordOf (L .address x))) (H′ .allocated (wordOf (L .address x))))
-  shown Event.endCycle p q = cond-same last
+  shown Event.endCycle p q = rw (← p, ← q) (turn last (H .allocated (wordOf (L .address x))) (H′ .allocated (wordOf (L .address x))))
+
+-- the sweep step that ends a cycle turns no allocated bit off
+pub end-frees : {H H′ : Heap} (x : ℕ) (L : Ledger) → Step H Event.endCycle H′ → freedIn x L H Event.endCycle H′ ≡ 0
+unfolding freedIn heapEndCycle
+end-frees {H} x L (endCycle A p h) = go (eqb (lastBorn L (L .address x)) x) (H .allocated (wordOf (L .address x)))
+  where
+    go : (l a : Bool) → cond l (asNumber (a && not a)) 0 ≡ 0
+    go true true = refl
+    go true false = refl
+    go false a = refl
 
 unborn-freedIn : (x : ℕ) (L : Ledger) (H : Heap) (e : Event) (H′ : Heap) → L .count < x → freedIn x L H e H′ ≡ 0
 unfolding freedIn

@@ -11,7 +11,7 @@ use Rattle.marking.specs.Effect.{inCycle, inMarking}
 use Rattle.marking.specs.Heap.{Heap, wordOf}
 use Rattle.marking.specs.Ledger.{Ledger, Event, Each, feed, feedAll}
 use Rattle.marking.specs.Trace.{Step, Steps}
-use Rattle.marking.specs.Claim.{isAllocated, freedDuring}
+use Rattle.marking.specs.Claim.{isAllocated, freedToEnd}
 
 -- the record v, and what its pointer words reach
 pub data From (L : Ledger) (v : ℕ) : ℕ → Type 0 where
@@ -66,4 +66,4 @@ pub record Exact (H : Heap) (L : Ledger) : Type 0 where
       Step H₂ Event.finish H₃ →
       (ss : Steps H₃ fs H₄) → Each inCycle fs → Step H₄ Event.endCycle H₅ →
       (x : ℕ) → 0 < x → x ≤ feedAll es L .count → T (isAllocated (feedAll es L) H₂ x) →
-      (¬ (Saved es L x) → freedDuring x (feedAll es L) ss ≡ 1) × (Saved es L x → freedDuring x (feedAll es L) ss ≡ 0)
+      (¬ (Saved es L x) → freedToEnd x (feedAll es L) ss H₅ ≡ 1) × (Saved es L x → freedToEnd x (feedAll es L) ss H₅ ≡ 0)
