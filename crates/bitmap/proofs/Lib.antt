@@ -1,4 +1,4 @@
 pub mod Bits
 pub mod Scan
-pub mod FirstSet
+pub mod Search
 pub mod FirstFree

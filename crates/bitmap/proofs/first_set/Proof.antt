@@ -4,13 +4,14 @@ use mathlib.Core.Path.{_∙_}
 use native.Mathlib.Omega.{arith}
 use denote.Ref.{now}
 use borrow.Author.Needs.{needs}
+use Rattle.model.specs.Bitmaps.{bitAt}
 use Rattle.bitmap.proofs.Scan.{None, whole-word}
-use Rattle.bitmap.proofs.FirstSet.{Masked, masked-first, masked-next, setFrom, none-before, scan-set, found-set, none-set}
+use Rattle.bitmap.proofs.Search.{Masked, masked-first, masked-next, passFrom, none-passed, scan-set, found, none-found}
 use Rattle.bitmap.proofs.first_set.Statement.{statement}
 use Rattle.bitmap.proofs.first_set.Tie as tie
 
 abbrev Inv-loop : tie.InvT-loop
-Inv-loop ws from to end at₀ mask₀ at mask = Masked from at mask × None (setFrom ws from) (at * 64)
+Inv-loop ws from to end at₀ mask₀ at mask = Masked from at mask × None (passFrom (bitAt ws) from) (at * 64)
 
 abbrev μ-loop : tie.MeasureT-loop
 μ-loop ws from to end at₀ mask₀ at mask = end - at
@@ -22,7 +23,7 @@ shl-mask : tie.Need-shl-mask Inv-loop μ-loop
 shl-mask c = search needs
 
 loop-holds : tie.Need-loop-holds Inv-loop μ-loop
-loop-holds c = let a = c .before .before .args in (masked-first (a .from), none-before (now (a .ws)) (a .from))
+loop-holds c = let a = c .before .before .args in (masked-first (a .from), none-passed (bitAt (now (a .ws))) (a .from))
 
 mul-found : tie.Need-mul-found Inv-loop μ-loop
 mul-found c = search needs
@@ -47,7 +48,7 @@ returns c =
     let s = c .before .before .before .before .before .before .before in
     let ws = now (s .args .ws) in
     let inv = c .before .before .before .before .loop .inv in
-    c .lower .ensures ∙ found-set ws (s .args .from) (s .args .to) (s .pre .0) (scan-set ws (inv .0) (inv .1)) (omega arith)
+    c .lower .ensures ∙ found (bitAt ws) (s .args .from) (s .args .to) (s .pre .0) (scan-set ws (inv .0) (inv .1)) (omega arith)
 
 add-at : tie.Need-add-at Inv-loop μ-loop
 add-at c = search needs
@@ -58,12 +59,13 @@ loop-less c = search needs
 loop-again : tie.Need-loop-again Inv-loop μ-loop
 loop-again c =
     let inv = c .before .before .before .loop .inv in
-    (masked-next (inv .0), whole-word (scan-set (now (c .before .before .before .before .before .before .args .ws)) (inv .0) (inv .1)) (omega arith))
+    let ws = now (c .before .before .before .before .before .before .args .ws) in
+    (masked-next (inv .0), whole-word (scan-set ws (inv .0) (inv .1)) (omega arith))
 
 returns-2 : tie.Need-returns-2 Inv-loop μ-loop
 returns-2 c =
     let s = c .before .before .before .before in
-    none-set (now (s .args .ws)) (s .args .from) (s .args .to) (s .pre .0) (c .before .loop .at * 64) (c .before .loop .inv .1) (omega arith)
+    none-found (bitAt (now (s .args .ws))) (s .args .from) (s .args .to) (s .pre .0) (c .before .loop .at * 64) (c .before .loop .inv .1) (omega arith)
 
 pub first-set-spec : {M : Type 1} → statement M
 first-set-spec =

@@ -3,8 +3,8 @@ use Prim.Native.Nat.{_-_, _*_}
 use native.Mathlib.Omega.{arith}
 use denote.Ref.{now}
 use Rattle.bitmap.proofs.Scan.{None, whole-word}
-use Rattle.bitmap.proofs.FirstSet.{Masked, masked-first, masked-next}
-use Rattle.bitsearch.proofs.Search.{passFrom, isClear, none-passed, scan-clear, found-one, found-none}
+use Rattle.bitmap.proofs.Search.{Masked, masked-first, masked-next, passFrom, none-passed, found, none-found}
+use Rattle.bitsearch.proofs.Search.{isClear, scan-clear}
 use borrow.Author.Needs.{needs}
 use Rattle.bitsearch.proofs.first_clear.Statement.{statement}
 use Rattle.bitsearch.proofs.first_clear.Tie as tie
@@ -46,13 +46,13 @@ returns : tie.Need-returns Inv-loop μ-loop
 returns c =
     let i = c .before .before .before .before .loop .inv in
     let a = c .before .before .before .before .before .args in
-    found-one (isClear (now (a .ws))) (a .from) (a .to) (scan-clear (now (a .ws)) (λ x. c .before .before .shared-slice-known .given x .fits) (i .0) (i .1)) (c .before .if1 .taken) (c .if2 .taken)
+    omega (arith, found (isClear (now (a .ws))) (a .from) (a .to) (c .before .before .before .before .before .pre .0) (scan-clear (now (a .ws)) (λ x. c .before .before .shared-slice-known .given x .fits) (i .0) (i .1)) (c .before .if1 .taken))
 
 returns-2 : tie.Need-returns-2 Inv-loop μ-loop
 returns-2 c =
     let i = c .before .before .before .before .loop .inv in
     let a = c .before .before .before .before .before .args in
-    found-none (isClear (now (a .ws))) (a .from) (a .to) _ (c .before .before .before .before .before .pre .0) (scan-clear (now (a .ws)) (λ x. c .before .before .shared-slice-known .given x .fits) (i .0) (i .1) .none) (c .if2 .left)
+    none-found (isClear (now (a .ws))) (a .from) (a .to) (c .before .before .before .before .before .pre .0) _ (scan-clear (now (a .ws)) (λ x. c .before .before .shared-slice-known .given x .fits) (i .0) (i .1) .none) (c .if2 .left)
 
 add-at : tie.Need-add-at Inv-loop μ-loop
 add-at c = search needs
@@ -69,7 +69,7 @@ loop-again c =
 returns-3 : tie.Need-returns-3 Inv-loop μ-loop
 returns-3 c =
     let a = c .before .before .args in
-    found-none (isClear (now (a .ws))) (a .from) (a .to) (c .before .loop .at * 64) (c .before .before .pre .0) (c .before .loop .inv .1) (omega arith)
+    none-found (isClear (now (a .ws))) (a .from) (a .to) (c .before .before .pre .0) (c .before .loop .at * 64) (c .before .loop .inv .1) (omega arith)
 
 pub first-clear-spec : {M : Type 1} → statement M
 first-clear-spec =

@@ -3,9 +3,9 @@ use Prim.Native.Nat.{_-_, _*_}
 use native.Mathlib.Omega.{arith}
 use denote.Ref.{now}
 use Rattle.bitmap.proofs.Scan.{None, whole-word}
-use Rattle.bitmap.proofs.FirstSet.{Masked, masked-first, masked-next}
+use Rattle.bitmap.proofs.Search.{Masked, masked-first, masked-next, passFrom, none-passed, found, none-found}
 use Rattle.bitsearch.specs.Freed.{isFreed}
-use Rattle.bitsearch.proofs.Search.{passFrom, none-passed, scan-freed, found-one, found-none}
+use Rattle.bitsearch.proofs.Search.{scan-freed}
 use borrow.Author.Needs.{needs}
 use Rattle.bitsearch.proofs.next_freed.Statement.{statement}
 use Rattle.bitsearch.proofs.next_freed.Tie as tie
@@ -54,7 +54,7 @@ returns c =
     let i = c .before .before .before .before .loop .inv in
     let a = c .before .before .before .before .before .args in
     let P = scan-freed (a .p) (now (a .bits)) (λ x. c .before .before .shared-slice-known .given x .fits) (omega arith) (i .0) (i .1) in
-    found-one (isFreed (a .p) (now (a .bits))) (a .from) (a .to) P (omega arith) (omega arith)
+    omega (arith, found (isFreed (a .p) (now (a .bits))) (a .from) (a .to) (c .before .before .before .before .before .pre .2) P (omega arith))
 
 add-at : tie.Need-add-at Inv-loop μ-loop
 add-at c = search needs
@@ -72,7 +72,7 @@ loop-again c =
 returns-2 : tie.Need-returns-2 Inv-loop μ-loop
 returns-2 c =
     let a = c .before .before .args in
-    found-none (isFreed (a .p) (now (a .bits))) (a .from) (a .to) (c .before .loop .at * 64) (c .before .before .pre .2) (c .before .loop .inv .1) (omega arith)
+    none-found (isFreed (a .p) (now (a .bits))) (a .from) (a .to) (c .before .before .pre .2) (c .before .loop .at * 64) (c .before .loop .inv .1) (omega arith)
 
 pub next-freed-spec : {M : Type 1} → statement M
 next-freed-spec =
