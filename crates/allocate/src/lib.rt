@@ -26,7 +26,7 @@ fn extend(table: &mut [u32], fresh: bool, w: usize, size: u64, pointers: u64)
     let page = Word(w).page();
     let n = classes::pages_for(size);
     let kind = classes::kind_of(size, pointers) as u32;
-    pages::write_span(table, page.0, n, kind);
+    span_entries::write_span(table, page.0, n, kind);
 }
 
 // The bits of a new record: allocated, its pointer words, and marked in the mark phase. They do not

@@ -17,7 +17,7 @@ use Rattle.model.specs.declared.Answer.the-variants.{Refused, Done}
 use Rattle.model.proofs.Bounded.{all-no, all-from}
 use Rattle.model.proofs.Outcomes.{refused, accepted}
 use Rattle.model.proofs.Facts.{Audited}
-use Rattle.pages.specs.Needs.{Flaggable}
+use Rattle.span_entries.specs.Needs.{Flaggable}
 
 -- a number passes; none does
 pub some-yes : (n : ℕ) (t : ℕ → Bool) (k : ℕ) → k < n → t k ≡ true → someBelow n t ≡ true

@@ -108,7 +108,7 @@ pub fn finish(p: usize, table: &mut [u32], bits: &[u64], roots: &mut [u64]) -> A
     if n != 0 {
         return Answer::Refused(n);
     }
-    pages::make_all_unswept(p, table);
+    span_entries::make_all_unswept(p, table);
     roots[units::PHASE] = units::SWEEP;
     Answer::Done
 }

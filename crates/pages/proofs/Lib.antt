@@ -1,5 +1,2 @@
 pub mod Allocate
-pub mod Entries
-pub mod Flags
 pub mod Runs
-pub mod Unswept

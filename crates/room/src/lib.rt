@@ -46,7 +46,7 @@ fn no_room(p: usize, table: &[u32], roots: &[u64]) -> u64
     if roots[units::PHASE] != units::SWEEP {
         return units::NO_ROOM;
     }
-    if pages::some_unswept(p, table) {
+    if span_entries::some_unswept(p, table) {
         return units::SWEEP_FIRST;
     }
     units::NO_ROOM

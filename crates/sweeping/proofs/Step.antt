@@ -12,7 +12,7 @@ use Rattle.model.specs.declared.Answer.{Answer}
 use Rattle.model.specs.declared.Answer.the-variants.{Refused, Swept}
 use Rattle.model.proofs.Outcomes.{meets}
 use Rattle.model.proofs.Facts.{Audited}
-use Rattle.pages.proofs.Unswept.{unswept-at}
+use Rattle.span_entries.proofs.Unswept.{unswept-at}
 use Rattle.sweeping.specs.Spans.{Sweepable, SweepsSpan}
 
 -- the first unswept span of audited buffers can be swept

@@ -61,10 +61,10 @@ fn sweep_span(p: usize, table: &mut [u32], bits: &mut [u64], s: usize) -> Answer
     let start = s as u64 + 1;
     sweep_bits(p, table, bits, s);
     if kept == 0 {
-        pages::free_span(table, s, n);
+        span_entries::free_span(table, s, n);
         return Answer::Swept(start, freed, n as u64);
     }
-    pages::make_swept(table, s);
+    span_entries::make_swept(table, s);
     Answer::Swept(start, freed, 0)
 }
 
@@ -76,7 +76,7 @@ pub fn sweep_step(p: usize, table: &mut [u32], bits: &mut [u64], roots: &mut [u6
     if roots[units::PHASE] != units::SWEEP {
         return Answer::Refused(units::WRONG_PHASE);
     }
-    let s = pages::first_unswept(p, table);
+    let s = span_entries::first_unswept(p, table);
     if p <= s {
         roots[units::PHASE] = units::OFF;
         return Answer::Swept(0, 0, 0);

@@ -3,10 +3,10 @@ use Prim.Native.Nat.{_≤_, _-_}
 use mathlib.Core.Path.{_≡_, refl}
 use native.Mathlib.Omega.{arith}
 use Rattle.model.specs.Spans.{freePage}
-use Rattle.pages.proofs.Entries.{Written, none-written, one-written}
+use Rattle.span_entries.proofs.Entries.{Written, none-written, one-written}
 use borrow.Author.Needs.{needs}
-use Rattle.pages.proofs.free_span.Statement.{statement}
-use Rattle.pages.proofs.free_span.Tie as tie
+use Rattle.span_entries.proofs.free_span.Statement.{statement}
+use Rattle.span_entries.proofs.free_span.Tie as tie
 
 abbrev Inv-loop : tie.InvT-loop
 Inv-loop table₀ s n freed₀ table freed = (freed ≤ n) × Written s freed (λ g. freePage) table₀ table

@@ -8,8 +8,8 @@ use Rattle.model.specs.Spans.{startsSpan, isUnswept}
 use Rattle.model.specs.Cycle.{firstUnswept}
 use Rattle.model.proofs.Bounded.{first-is}
 use borrow.Author.Needs.{needs}
-use Rattle.pages.proofs.first_unswept.Statement.{statement}
-use Rattle.pages.proofs.first_unswept.Tie as tie
+use Rattle.span_entries.proofs.first_unswept.Statement.{statement}
+use Rattle.span_entries.proofs.first_unswept.Tie as tie
 
 abbrev Inv-loop : tie.InvT-loop
 Inv-loop p table s₀ s = (s ≤ p) × ((k : ℕ) → k < s → (startsSpan table k && isUnswept table k) ≡ false)

@@ -1,7 +1,7 @@
 use Rattle.model.specs.Spans.{kindEntry}
 use borrow.Author.Needs.{needs}
-use Rattle.pages.proofs.make_swept.Statement.{statement}
-use Rattle.pages.proofs.make_swept.Tie as tie
+use Rattle.span_entries.proofs.make_swept.Statement.{statement}
+use Rattle.span_entries.proofs.make_swept.Tie as tie
 
 mul-kind : tie.Need-mul-kind
 mul-kind c = search needs

@@ -2,8 +2,8 @@ use native.Mathlib.Omega.{arith}
 use lib.ListN.{length-set}
 use Rattle.model.specs.Spans.{putPage}
 use borrow.Author.Needs.{needs}
-use Rattle.pages.proofs.put_entry.Statement.{statement}
-use Rattle.pages.proofs.put_entry.Tie as tie
+use Rattle.span_entries.proofs.put_entry.Statement.{statement}
+use Rattle.span_entries.proofs.put_entry.Tie as tie
 
 mul-at : tie.Need-mul-at
 mul-at c = search needs

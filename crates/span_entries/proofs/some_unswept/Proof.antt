@@ -1,7 +1,7 @@
-use Rattle.pages.proofs.Unswept.{some-unswept}
+use Rattle.span_entries.proofs.Unswept.{some-unswept}
 use borrow.Author.Needs.{needs}
-use Rattle.pages.proofs.some_unswept.Statement.{statement}
-use Rattle.pages.proofs.some_unswept.Tie as tie
+use Rattle.span_entries.proofs.some_unswept.Statement.{statement}
+use Rattle.span_entries.proofs.some_unswept.Tie as tie
 
 first-unswept-requires : tie.Need-first-unswept-requires
 first-unswept-requires c κs = search needs

@@ -1,8 +1,8 @@
 use borrow.Author.Tests.{eq-eqb, ne-eqb}
 use Rattle.model.specs.Spans.{kindEntry}
 use borrow.Author.Needs.{needs}
-use Rattle.pages.proofs.starts_unswept.Statement.{statement}
-use Rattle.pages.proofs.starts_unswept.Tie as tie
+use Rattle.span_entries.proofs.starts_unswept.Statement.{statement}
+use Rattle.span_entries.proofs.starts_unswept.Tie as tie
 
 owner-requires : tie.Need-owner-requires
 owner-requires c κs = search needs

@@ -9,7 +9,7 @@ use Rattle.model.specs.Spans.{owner, pageCount, kindEntry, Entry}
 use Rattle.model.specs.Cycle.{unsweptPage}
 use Rattle.model.proofs.Bounded.{within-high}
 use Rattle.model.proofs.Table.{Tabled, pages-owner, pages-count, pages-kind}
-use Rattle.pages.proofs.Entries.{Written, one-written, put-kind, put-same}
+use Rattle.span_entries.proofs.Entries.{Written, one-written, put-kind, put-same}
 
 -- page g's entry is the same in two tables
 pub record Same (g : ℕ) (t now : List ℕ) : Type 0 where

@@ -1,9 +1,9 @@
 use mathlib.Core.Path.{refl, sym, _∙_}
 use borrow.Author.Tests.{eq-eqb}
-use Rattle.pages.proofs.Entries.{put-kind}
+use Rattle.span_entries.proofs.Entries.{put-kind}
 use borrow.Author.Needs.{needs}
-use Rattle.pages.proofs.set_kind.Statement.{statement}
-use Rattle.pages.proofs.set_kind.Tie as tie
+use Rattle.span_entries.proofs.set_kind.Statement.{statement}
+use Rattle.span_entries.proofs.set_kind.Tie as tie
 
 mul-table : tie.Need-mul-table
 mul-table c = search needs

@@ -4,11 +4,11 @@ use mathlib.Core.Path.{_≡_, sym, _∙_}
 use native.Mathlib.Omega.{arith}
 use Rattle.model.specs.Spans.{kindEntry}
 use Rattle.model.specs.Cycle.{unsweptPage}
-use Rattle.pages.proofs.Entries.{Written, none-written}
-use Rattle.pages.proofs.Flags.{untouched, flagged, left}
+use Rattle.span_entries.proofs.Entries.{Written, none-written}
+use Rattle.span_entries.proofs.Flags.{untouched, flagged, left}
 use borrow.Author.Needs.{needs}
-use Rattle.pages.proofs.make_all_unswept.Statement.{statement}
-use Rattle.pages.proofs.make_all_unswept.Tie as tie
+use Rattle.span_entries.proofs.make_all_unswept.Statement.{statement}
+use Rattle.span_entries.proofs.make_all_unswept.Tie as tie
 
 abbrev Inv-loop : tie.InvT-loop
 Inv-loop p table₀ page₀ table page = (page ≤ p) × Written 0 page (unsweptPage table₀) table₀ table

@@ -6,10 +6,10 @@ use native.Mathlib.Omega.{arith}
 use lib.Dec.{eqb}
 use borrow.Author.Tests.{eq-eqb, ne-eqb}
 use Rattle.model.specs.Spans.{spanPage}
-use Rattle.pages.proofs.Entries.{Written, none-written, one-written}
+use Rattle.span_entries.proofs.Entries.{Written, none-written, one-written}
 use borrow.Author.Needs.{needs}
-use Rattle.pages.proofs.write_span.Statement.{statement}
-use Rattle.pages.proofs.write_span.Tie as tie
+use Rattle.span_entries.proofs.write_span.Statement.{statement}
+use Rattle.span_entries.proofs.write_span.Tie as tie
 
 abbrev Inv-loop : tie.InvT-loop
 Inv-loop table₀ s n kind owner next-count₀ next-kind₀ k₀ table next-count next-kind k =
