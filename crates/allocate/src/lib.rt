@@ -95,6 +95,6 @@ pub fn allocate(
     }
     let w = place.word;
     extend(table, place.fresh, w, size, pointers);
-    let slot = stacks::slot_at(s, i);
+    let slot = root_checks::slot_at(s, i);
     Answer::Value(take(p, arena, bits, roots, w, size, pointers as usize, slot))
 }

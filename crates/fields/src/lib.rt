@@ -10,7 +10,7 @@ ghost use Rattle.model.specs.Bounded.{_<?_, _≤?_};
 ghost use Rattle.model.specs.Memory.{lent};
 ghost use Rattle.model.specs.Spans.{spanOf, elementWords, pointerCount};
 ghost use Rattle.model.specs.Checks.{pointerRefusal, numberRefusal, recordAt};
-ghost use Rattle.stacks.specs.OnRoots.{Tests as OnRoots};
+ghost use Rattle.root_checks.specs.OnRoots.{Tests as OnRoots};
 ghost use Rattle.fields.specs.Needs.{Entries, Record, Field, Rooted, Tests};
 use units::Address;
 
@@ -60,11 +60,11 @@ pub fn pointer_refusal(
     requires { ⌜ Rooted p (now table) (now bits) (now roots) ⌝ }
     ensures { λ r. ⌜ Tests (λ h. pointerRefusal h s i j f) p (now (table .entry)) (now (bits .entry)) (now (roots .entry)) r ⌝ }
 {
-    let n = stacks::slots_refusal(roots, s, i, j);
+    let n = root_checks::slots_refusal(roots, s, i, j);
     if n != 0 {
         return n;
     }
-    let slot = stacks::slot_at(s, j);
+    let slot = root_checks::slot_at(s, j);
     let v = roots[slot];
     let record = Address(v);
     if record.is_nil() {
@@ -89,11 +89,11 @@ pub fn number_refusal(
     requires { ⌜ Rooted p (now table) (now bits) (now roots) ⌝ }
     ensures { λ r. ⌜ Tests (λ h. numberRefusal h s j f) p (now (table .entry)) (now (bits .entry)) (now (roots .entry)) r ⌝ }
 {
-    let n = stacks::slot_refusal(roots, s, j);
+    let n = root_checks::slot_refusal(roots, s, j);
     if n != 0 {
         return n;
     }
-    let slot = stacks::slot_at(s, j);
+    let slot = root_checks::slot_at(s, j);
     let v = roots[slot];
     let record = Address(v);
     if record.is_nil() {
@@ -110,7 +110,7 @@ pub fn field_at(roots: &[u64], s: u64, j: u64, f: u64) -> usize
     requires { ⌜ Field (now roots) s j f ⌝ }
     ensures { λ r. ⌜ OnRoots (λ h. recordAt h s j + f) (now (roots .entry)) r ⌝ }
 {
-    let slot = stacks::slot_at(s, j);
+    let slot = root_checks::slot_at(s, j);
     let v = roots[slot];
     Address(v).word().0 + f as usize
 }

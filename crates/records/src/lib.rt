@@ -30,7 +30,7 @@ pub fn load(
         return Answer::Refused(n);
     }
     let from = fields::field_at(roots, s, j, f);
-    let to = stacks::slot_at(s, i);
+    let to = root_checks::slot_at(s, i);
     let v = arena[from];
     roots[to] = v;
     Answer::Value(v)
@@ -56,7 +56,7 @@ pub fn store(
         return Answer::Refused(n);
     }
     let at = fields::field_at(roots, s, j, f);
-    let slot = stacks::slot_at(s, k);
+    let slot = root_checks::slot_at(s, k);
     let old = arena[at];
     let new = roots[slot];
     shading::barrier(p, table, bits, roots, old, new);
@@ -124,11 +124,11 @@ pub fn store_global(
     requires { ⌜ Rooted p (now table) (now bits) (now roots) ⌝ }
     ensures { λ r. ⌜ ((a : List ℕ) → Meets (storeGlobal (lent p a (now (table .entry)) (now (bits .entry)) (now (roots .entry))) s g i) r a (now (table .entry)) (now (bits .exit)) (now (roots .exit))) ⌝ }
 {
-    let n = stacks::global_refusal(roots, s, i, g);
+    let n = root_checks::global_refusal(roots, s, i, g);
     if n != 0 {
         return Answer::Refused(n);
     }
-    let slot = stacks::slot_at(s, i);
+    let slot = root_checks::slot_at(s, i);
     let global = units::FIRST_GLOBAL + g as usize;
     let old = roots[global];
     let v = roots[slot];

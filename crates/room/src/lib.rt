@@ -106,7 +106,7 @@ pub fn choose(
     requires { ⌜ Searches p (now table) (now bits) (now roots) ⌝ }
     ensures { λ r. ⌜ ((a : List ℕ) → let h = lent p a (now (table .entry)) (now (bits .entry)) (now (roots .entry)) in Found h (allocateRefusal h s i size pointers) (kindOf size pointers) (pagesFor size) (r .refusal) (r .word) (r .fresh)) ⌝ }
 {
-    let no_slot = stacks::slot_refusal(roots, s, i);
+    let no_slot = root_checks::slot_refusal(roots, s, i);
     if no_slot != 0 {
         return refused(no_slot);
     }

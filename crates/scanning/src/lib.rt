@@ -9,7 +9,7 @@ ghost use Rattle.model.specs.Memory.{rootWords, putWords, firstState, stacks, c
 ghost use Rattle.model.specs.Answers.{_orElse_};
 ghost use Rattle.model.specs.Checks.{phaseRefusal, openRefusal};
 ghost use Rattle.model.specs.Cycle.{start, scanStack, scanGlobals};
-ghost use Rattle.stacks.specs.OnRoots.{Tests, Does as OnRoots};
+ghost use Rattle.root_checks.specs.OnRoots.{Tests, Does as OnRoots};
 ghost use Rattle.scanning.specs.Needs.{AuditedWithout, Does, Scannable, Scans};
 use model::Answer;
 
@@ -79,7 +79,7 @@ fn scan_refusal(roots: &[u64], s: u64) -> u64
     if roots[units::PHASE] != units::MARK {
         return units::WRONG_PHASE;
     }
-    stacks::not_open(roots, s)
+    root_checks::not_open(roots, s)
 }
 
 // Stack s is scanned.

@@ -5,7 +5,7 @@ use native.Mathlib.Omega.{arith}
 use Rattle.model.specs.Memory.{lent}
 use Rattle.model.specs.Records.{storeGlobal}
 use Rattle.model.proofs.Outcomes.{refused, accepted}
-use Rattle.stacks.proofs.Passed.{global-bounds}
+use Rattle.root_checks.proofs.Passed.{global-bounds}
 use Rattle.records.proofs.Accesses.{roots-stored}
 use borrow.Author.Needs.{needs}
 use Rattle.records.proofs.store_global.Statement.{statement}

@@ -4,7 +4,7 @@ use native.Mathlib.Omega.{arith}
 use Rattle.model.specs.Memory.{lent}
 use Rattle.model.proofs.Outcomes.{refused, accepted}
 use Rattle.model.specs.Records.{clear}
-use Rattle.stacks.proofs.Passed.{slot-bounds}
+use Rattle.root_checks.proofs.Passed.{slot-bounds}
 use borrow.Author.Needs.{needs}
 use Rattle.stacks.proofs.clear.Statement.{statement}
 use Rattle.stacks.proofs.clear.Tie as tie

@@ -3,7 +3,7 @@ use mathlib.Core.Path.{sym, _∙_}
 use Rattle.model.specs.Memory.{lent}
 use Rattle.model.proofs.Outcomes.{refused, accepted}
 use Rattle.model.specs.Records.{closeStack, emptied}
-use Rattle.stacks.proofs.Passed.{open-bounds}
+use Rattle.root_checks.proofs.Passed.{open-bounds}
 use borrow.Author.Needs.{needs}
 use Rattle.stacks.proofs.close_stack.Statement.{statement}
 use Rattle.stacks.proofs.close_stack.Tie as tie

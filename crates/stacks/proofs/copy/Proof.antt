@@ -5,7 +5,7 @@ use native.Mathlib.Omega.{arith}
 use Rattle.model.specs.Memory.{lent}
 use Rattle.model.proofs.Outcomes.{refused, accepted}
 use Rattle.model.specs.Records.{copy}
-use Rattle.stacks.proofs.Passed.{slots-bounds}
+use Rattle.root_checks.proofs.Passed.{slots-bounds}
 use borrow.Author.Needs.{needs}
 use Rattle.stacks.proofs.copy.Statement.{statement}
 use Rattle.stacks.proofs.copy.Tie as tie

@@ -5,7 +5,7 @@ use native.Mathlib.Omega.{arith}
 use Rattle.model.specs.Memory.{lent}
 use Rattle.model.proofs.Outcomes.{refused, accepted}
 use Rattle.model.specs.Records.{loadGlobal}
-use Rattle.stacks.proofs.Passed.{global-bounds}
+use Rattle.root_checks.proofs.Passed.{global-bounds}
 use borrow.Author.Needs.{needs}
 use Rattle.stacks.proofs.load_global.Statement.{statement}
 use Rattle.stacks.proofs.load_global.Tie as tie

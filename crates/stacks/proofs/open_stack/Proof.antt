@@ -3,7 +3,7 @@ use mathlib.Core.Path.{sym, _∙_}
 use Rattle.model.specs.Memory.{lent}
 use Rattle.model.proofs.Outcomes.{refused, accepted}
 use Rattle.model.specs.Records.{openStack, emptied}
-use Rattle.stacks.proofs.Passed.{closed-bounds}
+use Rattle.root_checks.proofs.Passed.{closed-bounds}
 use borrow.Author.Needs.{needs}
 use Rattle.stacks.proofs.open_stack.Statement.{statement}
 use Rattle.stacks.proofs.open_stack.Tie as tie

@@ -1,10 +1,10 @@
 -- Each way out is one test of the chain.
 use borrow.Author.Tests.{eq-eqb, ne-eqb, le-leb, lt-leb}
 use Rattle.model.specs.Answers.{_given_, _orElse_}
-use Rattle.stacks.proofs.Passed.{global-chain}
+use Rattle.root_checks.proofs.Passed.{global-chain}
 use borrow.Author.Needs.{needs}
-use Rattle.stacks.proofs.global_refusal.Statement.{statement}
-use Rattle.stacks.proofs.global_refusal.Tie as tie
+use Rattle.root_checks.proofs.global_refusal.Statement.{statement}
+use Rattle.root_checks.proofs.global_refusal.Tie as tie
 
 slot-refusal-requires : tie.Need-slot-refusal-requires
 slot-refusal-requires c κs = search needs

@@ -2,8 +2,8 @@
 use borrow.Author.Tests.{eq-eqb, ne-eqb, le-leb, lt-leb}
 use Rattle.model.specs.Answers.{_given_}
 use borrow.Author.Needs.{needs}
-use Rattle.stacks.proofs.not_closed.Statement.{statement}
-use Rattle.stacks.proofs.not_closed.Tie as tie
+use Rattle.root_checks.proofs.not_closed.Statement.{statement}
+use Rattle.root_checks.proofs.not_closed.Tie as tie
 
 returns : tie.Need-returns
 unfolding _given_

@@ -7,7 +7,7 @@ use Rattle.model.specs.Answers.{_orElse_}
 use Rattle.model.specs.Checks.{openRefusal, closedRefusal, slotNumberRefusal, globalNumberRefusal, slotRefusal, slotsRefusal, globalRefusal}
 use Rattle.model.proofs.Outcomes.{orElse-assoc}
 use Rattle.model.proofs.Checks.{passes, open-passed, slot-passed, slots-passed, global-passed}
-use Rattle.stacks.specs.OnRoots.{Tests}
+use Rattle.root_checks.specs.OnRoots.{Tests}
 
 pub slots-chain : (h : Heap) (s i j : ℕ) → slotsRefusal h s i j ≡ (slotRefusal h s i orElse slotNumberRefusal j)
 unfolding slotsRefusal slotRefusal

@@ -3,8 +3,8 @@ use borrow.Author.Tests.{eq-eqb, ne-eqb, le-leb, lt-leb}
 use Rattle.model.specs.Answers.{_given_, _orElse_}
 use Rattle.model.specs.Checks.{slotRefusal}
 use borrow.Author.Needs.{needs}
-use Rattle.stacks.proofs.slot_refusal.Statement.{statement}
-use Rattle.stacks.proofs.slot_refusal.Tie as tie
+use Rattle.root_checks.proofs.slot_refusal.Statement.{statement}
+use Rattle.root_checks.proofs.slot_refusal.Tie as tie
 
 not-open-requires : tie.Need-not-open-requires
 not-open-requires c κs = search needs
