@@ -3,13 +3,13 @@
 ghost use mathlib.Core.Path.{_≡_};
 ghost use Prim.Native.Nat.{_+_, _≤_};
 ghost use lib.ListN.{length};
+ghost use Rattle.line_buffer.specs.Split.{Short};
 ghost use Rattle.play.specs.Run.{Sized, Fits};
+use line_buffer::Taken;
 
 const STDIN: i32 = 0;
 
 const STDOUT: i32 = 1;
-
-const LINE_FEED: u8 = 10;
 
 // How far the run is: P (0 before the first line), the lines played, the bytes of the line under
 // way, the bytes of output that wait, and whether the run goes on.
@@ -159,8 +159,20 @@ fn paused(run: Progress, used: usize, more: bool) -> Progress
     }
 }
 
-// The bytes of a block, one after the other. Where a line gets too long, the run ends with the line
-// under way.
+// What is left of a block behind its last line: the line under way, or one that is too long, which
+// ends the run.
+fn left_over(run: Progress, taken: Taken) -> Progress
+    requires { ⌜ (Fits run) × Short taken ⌝ }
+    ensures { λ r. ⌜ Fits r ⌝ }
+{
+    match taken {
+        Taken::Line(_, _) => run,
+        Taken::Part(n) => paused(run, n, true),
+        Taken::TooLong => paused(run, lines::LONGEST, false),
+    }
+}
+
+// The lines of a block, one after the other.
 fn feed(
     arena: &mut [u64],
     table: &mut [u32],
@@ -178,24 +190,16 @@ fn feed(
     let mut run = from;
     let mut used = from.used;
     let mut i = 0;
-    while i < block.len() {
-        let b = block[i];
-        i += 1;
-        if b == LINE_FEED {
-            run = play_line(arena, table, bits, roots, out, &line[..used], run);
-            if !run.more {
-                return run;
-            }
-            used = 0;
-        } else {
-            if used == lines::LONGEST {
-                return paused(run, used, false);
-            }
-            line[used] = b;
-            used += 1;
-        }
+    while run.more {
+        let taken = line_buffer::take(line, used, block, i);
+        let Taken::Line(n, next) = taken else {
+            return left_over(run, taken);
+        };
+        run = play_line(arena, table, bits, roots, out, &line[..n], run);
+        used = 0;
+        i = next;
     }
-    paused(run, used, true)
+    run
 }
 
 // What waits is written.

@@ -1,7 +1,7 @@
-// The checks of stack, slot and global numbers against the roots. Each gives the refusal of the
-// calls that need it, 0 where there is none: a stack that has to be open, or closed, with a slot of
-// it, with two, or with a slot and a global. And where a slot that passed stands. They are taken
-// after the audit, of which they need the roots' length.
+// The checks of a call's stack, slot and global numbers. Each gives the call's refusal, 0 where
+// there is none: of a call on an open stack, on a closed one, on one slot or two of an open stack,
+// on a slot and a global. Beside them, where a slot stands. They are taken after the audit, of which
+// they need the roots' length.
 ghost use mathlib.Core.Path.{_≡_};
 ghost use Prim.Native.Nat.{_<_};
 ghost use lib.ListN.{length};

@@ -2,10 +2,12 @@
 use Prim.Native.Nat.{_≤_, _-_}
 use mathlib.Core.Path.{_≡_, sym}
 use native.Mathlib.Omega.{arith}
-use lib.ListN.{length, length-set}
+use lib.ListN.{length}
 use lib.Seq.{length-take-le}
-use borrow.Author.Needs.{needs}
+use denote.Ref.{now}
+use Rattle.line_buffer.proofs.Splitting.{short, line-taken}
 use Rattle.play.specs.Run.{Sized, Fits}
+use borrow.Author.Needs.{needs}
 use Rattle.play.proofs.feed.Statement.{statement}
 use Rattle.play.proofs.feed.Tie as tie
 
@@ -20,20 +22,16 @@ abbrev μ-loop : tie.MeasureT-loop
 loop-holds : tie.Need-loop-holds Inv-loop μ-loop
 loop-holds c = search needs
 
-shared-slice-read-b : tie.Need-shared-slice-read-b Inv-loop μ-loop
-shared-slice-read-b c = search needs
+take-requires : tie.Need-take-requires Inv-loop μ-loop
+take-requires c κs =
+    let i = c .before .before .loop .inv in
+    record { size = i .2; under-way = i .3; place = i .4 }
 
-add-i : tie.Need-add-i Inv-loop μ-loop
-add-i c = search needs
+enum-known-taken : tie.Need-enum-known-taken Inv-loop μ-loop
+enum-known-taken c = search needs
 
-slice-reshare-prefix-play-line : tie.Need-slice-reshare-prefix-play-line Inv-loop μ-loop
-slice-reshare-prefix-play-line c = search needs
-
-slice-aggregate-play-line : tie.Need-slice-aggregate-play-line Inv-loop μ-loop
-slice-aggregate-play-line c = sym (length-take-le (c .before .before .before .before .before .before .before .before .before .loop .used) (c .before .before .before .before .before .before .before .before .before .loop .line) (omega arith))
-
-play-line-requires : tie.Need-play-line-requires Inv-loop μ-loop
-play-line-requires c κs = (c .before .before .before .before .before .before .before .before .before .loop .inv .0, c .before .before .before .before .before .before .before .before .before .loop .inv .1)
+left-over-requires : tie.Need-left-over-requires Inv-loop μ-loop
+left-over-requires c κs = (c .before .before .before .before .before .before .loop .inv .1, rw (c .before .before .before .take .ensures .0) (short _ _ _))
 
 same-length : tie.Need-same-length Inv-loop μ-loop
 same-length c = search needs
@@ -51,19 +49,29 @@ same-length-5 : tie.Need-same-length-5 Inv-loop μ-loop
 same-length-5 c = search needs
 
 same-length-6 : tie.Need-same-length-6 Inv-loop μ-loop
-same-length-6 c = omega (arith, c .before .before .before .before .before .before .before .before .before .before .before .before .before .before .before .before .before .before .before .before .before .before .before .before .before .before .before .before .before .before)
+same-length-6 c = search needs
 
 returns : tie.Need-returns Inv-loop μ-loop
 returns c = search needs
 
+slice-reshare-prefix-play-line : tie.Need-slice-reshare-prefix-play-line Inv-loop μ-loop
+slice-reshare-prefix-play-line c = omega (arith, line-taken _ _ _ (c .before .before .before .before .before .before .before .before .before .before .take .ensures .0) (c .before .before .before .before .before .before .taken .given .1) .0, c .before .before .before .before .before .before .before .before .before .before .take .kept .0, c .before .before .before .before .before .before .before .before .before .before .before .before .before .loop .inv .2)
+
+slice-aggregate-play-line : tie.Need-slice-aggregate-play-line Inv-loop μ-loop
+slice-aggregate-play-line c = sym (length-take-le _ (c .before .before .before .before .before .before .before .before .before .before .before .take .last .0) (omega (arith, line-taken _ _ _ (c .before .before .before .before .before .before .before .before .before .before .before .take .ensures .0) (c .before .before .before .before .before .before .before .taken .given .1) .0, c .before .before .before .before .before .before .before .before .before .before .before .take .kept .0, c .before .before .before .before .before .before .before .before .before .before .before .before .before .before .loop .inv .2)))
+
+play-line-requires : tie.Need-play-line-requires Inv-loop μ-loop
+play-line-requires c κs = (c .before .before .before .before .before .before .before .before .before .before .before .before .before .before .loop .inv .0, c .before .before .before .before .before .before .before .before .before .before .before .before .before .before .loop .inv .1)
+
 loop-less : tie.Need-loop-less Inv-loop μ-loop
-loop-less c = search needs
+loop-less c =
+    let t = line-taken _ _ _ (c .before .before .before .before .before .before .before .before .before .before .before .before .before .before .before .before .before .before .before .before .before .before .take .ensures .0) (c .before .before .before .before .before .before .before .before .before .before .before .before .before .before .before .before .before .before .taken .given .1) in
+    omega arith
 
 loop-again : tie.Need-loop-again Inv-loop μ-loop
-loop-again c = search needs
-
-paused-requires : tie.Need-paused-requires Inv-loop μ-loop
-paused-requires c κs = search needs
+loop-again c =
+    let t = line-taken _ _ _ (c .before .before .before .before .before .before .before .before .before .before .before .before .before .before .before .before .before .before .before .before .before .before .take .ensures .0) (c .before .before .before .before .before .before .before .before .before .before .before .before .before .before .before .before .before .before .taken .given .1) in
+    (search needs, c .before .before .before .before .before .before .before .before .before .before .play-line .ensures, omega (arith, c .before .before .before .before .before .before .before .before .before .before .before .before .before .before .before .before .before .before .before .before .before .before .take .kept .0, c .before .before .before .before .before .before .before .before .before .before .before .before .before .before .before .before .before .before .before .before .before .before .before .before .before .loop .inv .2), omega arith, t .2)
 
 same-length-7 : tie.Need-same-length-7 Inv-loop μ-loop
 same-length-7 c = search needs
@@ -86,42 +94,6 @@ same-length-12 c = search needs
 returns-2 : tie.Need-returns-2 Inv-loop μ-loop
 returns-2 c = search needs
 
-slice-write-line : tie.Need-slice-write-line Inv-loop μ-loop
-slice-write-line c = search needs
-
-add-used : tie.Need-add-used Inv-loop μ-loop
-add-used c = search needs
-
-loop-less-2 : tie.Need-loop-less-2 Inv-loop μ-loop
-loop-less-2 c = search needs
-
-loop-again-2 : tie.Need-loop-again-2 Inv-loop μ-loop
-loop-again-2 c = simp length-set (search needs)
-
-paused-requires-2 : tie.Need-paused-requires-2 Inv-loop μ-loop
-paused-requires-2 c κs = search needs
-
-same-length-13 : tie.Need-same-length-13 Inv-loop μ-loop
-same-length-13 c = search needs
-
-same-length-14 : tie.Need-same-length-14 Inv-loop μ-loop
-same-length-14 c = search needs
-
-same-length-15 : tie.Need-same-length-15 Inv-loop μ-loop
-same-length-15 c = search needs
-
-same-length-16 : tie.Need-same-length-16 Inv-loop μ-loop
-same-length-16 c = search needs
-
-same-length-17 : tie.Need-same-length-17 Inv-loop μ-loop
-same-length-17 c = search needs
-
-same-length-18 : tie.Need-same-length-18 Inv-loop μ-loop
-same-length-18 c = search needs
-
-returns-3 : tie.Need-returns-3 Inv-loop μ-loop
-returns-3 c = search needs
-
 pub feed-spec : {M : Type 1} → statement M
 feed-spec =
     tie.close
@@ -129,11 +101,9 @@ feed-spec =
     Inv-loop
     μ-loop
     loop-holds
-    shared-slice-read-b
-    add-i
-    slice-reshare-prefix-play-line
-    slice-aggregate-play-line
-    play-line-requires
+    take-requires
+    enum-known-taken
+    left-over-requires
     same-length
     same-length-2
     same-length-3
@@ -141,25 +111,15 @@ feed-spec =
     same-length-5
     same-length-6
     returns
+    slice-reshare-prefix-play-line
+    slice-aggregate-play-line
+    play-line-requires
     loop-less
     loop-again
-    paused-requires
     same-length-7
     same-length-8
     same-length-9
     same-length-10
     same-length-11
     same-length-12
-    returns-2
-    slice-write-line
-    add-used
-    loop-less-2
-    loop-again-2
-    paused-requires-2
-    same-length-13
-    same-length-14
-    same-length-15
-    same-length-16
-    same-length-17
-    same-length-18
-    returns-3)
+    returns-2)
