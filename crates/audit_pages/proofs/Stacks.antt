@@ -7,7 +7,7 @@ use mathlib.Core.Path.{_≡_}
 use native.Mathlib.Omega.{arith}
 use lib.Dec.{T, eqb}
 use lib.ListN.{getD}
-use Rattle.model.specs.Memory.{stateAt, globalsStateAt, phaseAt, closed, openState, grayState, sweep, mark, stacks}
+use Rattle.model.specs.Memory.{stateAt, globalsStateAt, phaseAt, closed, openState, grayState, sweep, mark, stackCount}
 use Rattle.model.proofs.Tests.{eqb-iff}
 use Rattle.model.proofs.Facts.{States}
 use Rattle.audit_pages.specs.Stacks.{Phase, Empty, Stack}
@@ -41,7 +41,7 @@ module _ (r : List ℕ) where
         to x = let e = eqb-iff (getD r (stateAt s) 0) openState .0 x in record { high = omega arith; gray = λ g. absurd (d g); empty = λ y. absurd (z y) }
 
   -- all of them
-  pub states : Phase r → ((s : ℕ) → s < stacks → Stack r s) → States r
+  pub states : Phase r → ((s : ℕ) → s < stackCount → Stack r s) → States r
   states P f = record {
     phase = P .legal;
     legal = λ s l. (f s l .high, f s l .gray);
@@ -50,7 +50,7 @@ module _ (r : List ℕ) where
   }
 
   pub states-phase : States r → Phase r
-  states-phase F = record { legal = F .phase; low = F .globals .0; high = F .globals .1; gray = F .globals .2 }
+  states-phase F = record { legal = F .phase; low = F .globalCount .0; high = F .globalCount .1; gray = F .globalCount .2 }
 
-  pub states-stack : States r → (s : ℕ) → s < stacks → Stack r s
+  pub states-stack : States r → (s : ℕ) → s < stackCount → Stack r s
   states-stack F s l = record { high = F .legal s l .0; gray = F .legal s l .1; empty = λ z i m. F .closed s i l m z }

@@ -3,7 +3,7 @@ use Prim.Native.Nat.{ℕ, _<_, _≤_}
 use mathlib.Core.List.{List}
 use mathlib.Core.Path.{_≡_}
 use lib.ListN.{getD}
-use Rattle.model.specs.Memory.{slots, slotAt, stateAt, globalsStateAt, phaseAt, closed, openState, grayState, sweep, mark, nil}
+use Rattle.model.specs.Memory.{slotCount, slotAt, stateAt, globalsStateAt, phaseAt, closed, openState, grayState, sweep, mark, nil}
 
 -- "states and phase have legal values, a state of 2 only in phase mark"
 pub record Phase (r : List ℕ) : Type 0 where
@@ -14,7 +14,7 @@ pub record Phase (r : List ℕ) : Type 0 where
 
 -- all slots of stack s are nil
 abbrev pub Empty : List ℕ → ℕ → Type 0
-Empty r s = (i : ℕ) → i < slots → getD r (slotAt s i) 0 ≡ nil
+Empty r s = (i : ℕ) → i < slotCount → getD r (slotAt s i) 0 ≡ nil
 
 -- .. and "closed stacks are all nil", for stack s
 pub record Stack (r : List ℕ) (s : ℕ) : Type 0 where

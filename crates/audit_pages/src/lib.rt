@@ -6,7 +6,7 @@ ghost use mathlib.Core.Logic.{_↔_, _≢_};
 ghost use Prim.Native.Nat.{ℕ, _+_, _*_, _<_, _≤_};
 ghost use lib.Dec.{T};
 ghost use lib.ListN.{length};
-ghost use Rattle.model.specs.Memory.{maxPages, entryNumbers, rootWords, stacks, sweep};
+ghost use Rattle.model.specs.Memory.{maxPages, entryNumbers, rootWords, stackCount, sweep};
 ghost use Rattle.model.specs.Spans.{pageCount, unsweptFlag};
 ghost use Rattle.model.proofs.Spans.{GoodEntry};
 ghost use Rattle.model.proofs.Facts.{States};
@@ -40,7 +40,7 @@ const MOST_LARGE: usize = 128;
 
 // All slots of stack s are nil.
 fn slots_nil(roots: &[u64], s: usize) -> bool
-    requires { ⌜ (length (now roots) ≡ rootWords) × (s < stacks) ⌝ }
+    requires { ⌜ (length (now roots) ≡ rootWords) × (s < stackCount) ⌝ }
     ensures { λ r. ⌜ (T r ↔ Empty (now (roots .entry)) s) ⌝ }
 {
     let first = SLOTS * s;
@@ -57,7 +57,7 @@ fn slots_nil(roots: &[u64], s: usize) -> bool
 
 // Stack s has a legal state, gray only in the mark phase; a closed one is all nil.
 fn stack_ok(roots: &[u64], s: usize) -> bool
-    requires { ⌜ (length (now roots) ≡ rootWords) × (s < stacks) ⌝ }
+    requires { ⌜ (length (now roots) ≡ rootWords) × (s < stackCount) ⌝ }
     ensures { λ r. ⌜ (T r ↔ Stack (now (roots .entry)) s) ⌝ }
 {
     let state = roots[FIRST_STATE + s];
@@ -73,7 +73,7 @@ fn stack_ok(roots: &[u64], s: usize) -> bool
 // Every stack is as it should be.
 fn stacks_ok(roots: &[u64]) -> bool
     requires { ⌜ length (now roots) ≡ rootWords ⌝ }
-    ensures { λ r. ⌜ (T r ↔ ((s : ℕ) → s < stacks → Stack (now (roots .entry)) s)) ⌝ }
+    ensures { λ r. ⌜ (T r ↔ ((s : ℕ) → s < stackCount → Stack (now (roots .entry)) s)) ⌝ }
 {
     let mut s = 0;
     while s < STACKS {

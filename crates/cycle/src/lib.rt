@@ -7,7 +7,7 @@ ghost use Prim.Native.Nat.{ℕ, _+_};
 ghost use lib.Dec.{eqb};
 ghost use lib.ListN.{length, getD};
 ghost use Rattle.model.specs.Bounded.{someBelow};
-ghost use Rattle.model.specs.Memory.{lent, rootWords, firstState, stacks, grayState};
+ghost use Rattle.model.specs.Memory.{lent, rootWords, firstState, stackCount, grayState};
 ghost use Rattle.model.specs.Answers.{Meets};
 ghost use Rattle.model.specs.Spans.{pointerCount};
 ghost use Rattle.model.specs.Cycle.{firstGray, scanRecord, markStep, finishRefusal, finish};
@@ -67,7 +67,7 @@ pub fn mark_step(p: usize, arena: &[u64], table: &[u32], bits: &mut [u64], roots
 // Some stack is gray.
 fn some_gray(roots: &[u64]) -> bool
     requires { ⌜ length (now roots) ≡ rootWords ⌝ }
-    ensures { λ r. ⌜ r ≡ someBelow stacks (λ s. eqb (getD (now (roots .entry)) (firstState + s) 0) grayState) ⌝ }
+    ensures { λ r. ⌜ r ≡ someBelow stackCount (λ s. eqb (getD (now (roots .entry)) (firstState + s) 0) grayState) ⌝ }
 {
     let mut s = 0;
     while s < units::STACKS {

@@ -3,7 +3,7 @@ use Prim.Native.Nat.{ℕ, _+_, _*_, _<_, _≤_}
 use mathlib.Core.List.{List}
 use mathlib.Core.Path.{_≡_}
 use lib.ListN.{length, getD}
-use Rattle.model.specs.Memory.{Heap, lent, maxPages, pageWords, entryNumbers, rootWords, stacks, slots, firstState, pageOf, slotAt, recordOf}
+use Rattle.model.specs.Memory.{Heap, lent, maxPages, pageWords, entryNumbers, rootWords, stackCount, slotCount, firstState, pageOf, slotAt, recordOf}
 use Rattle.model.specs.Spans.{spanOf, classAt, pageCount}
 use Rattle.model.specs.Classes.{rows}
 use Rattle.model.proofs.Spans.{Spans, Element}
@@ -27,8 +27,8 @@ pub record Record (p : ℕ) (t b : List ℕ) (w : ℕ) : Type 0 where
 -- slot j of stack s names a record, and its field f lies in the arena
 pub record Field (r : List ℕ) (s j f : ℕ) : Type 0 where
   pub roots : length r ≡ rootWords
-  pub stack : s < stacks
-  pub slot : j < slots
+  pub stack : s < stackCount
+  pub slot : j < slotCount
   pub word : recordOf (getD r (slotAt s j) 0) + f < pageWords * maxPages
 
 -- all that the audit says of the page table, the bitmaps and the roots

@@ -8,13 +8,13 @@ use mathlib.Core.Path.{_≡_, refl}
 use native.Mathlib.Omega.{arith}
 use lib.Dec.{T, eqb, ltb}
 use borrow.Author.Tests.{ltb-true, ltb-false, eq-eqb, ne-eqb, leb-false}
-use Rattle.marking.specs.Calls.{State}
-use Rattle.marking.specs.Represents.{Layout}
+use Rattle.marking.proofs.Operations.{State}
+use Rattle.marking.proofs.Represents.{Layout}
 use Rattle.marking.specs.Ledger.{Ledger, Event}
 use Rattle.marking.specs.Trace.{Step}
 use Rattle.marking.specs.Trace
-use Rattle.marking.specs.Agreement.{Agrees}
-use Rattle.marking.specs.Refinement
+use Rattle.marking.proofs.Agreement.{Agrees}
+use Rattle.marking.proofs.Refinement
 use Rattle.model.specs.Memory.{Heap, choose, withBits, setRoot, slot, global, state, globalsState, phase, word, words, addressOf, stateAt}
 use Rattle.model.specs.Bitmaps.{allocated, gray, is}
 use Rattle.model.specs.Spans.{owner, pageCount, kindEntry, startsSpan, isUnswept, spanOf, kept}

@@ -9,12 +9,12 @@ use native.Mathlib.Omega.{arith}
 use lib.ListN.{getD, set, length-set, List·getD-eq-default}
 use lib.Dec.{T, eqb, ltb}
 use borrow.Author.Tests.{ltb-true, ltb-false, lt-ltb, le-leb, eq-eqb, ne-eqb}
-use Rattle.marking.specs.Calls.{State}
-use Rattle.marking.specs.Heap.{heapFinish}
-use Rattle.marking.specs.Represents.{Layout, address, Live, address-nil, address-live}
-use Rattle.marking.specs.Simulation.{nil-or-live}
+use Rattle.marking.proofs.Operations.{State}
+use Rattle.marking.specs.WordHeap.{heapFinish}
+use Rattle.marking.proofs.Represents.{Layout, address, Live, address-nil, address-live}
+use Rattle.marking.proofs.Simulation.{nil-or-live}
 use Rattle.marking.specs.Ledger.{Ledger}
-use Rattle.marking.specs.Agreement.{Agrees}
+use Rattle.marking.proofs.Agreement.{Agrees}
 use Rattle.model.specs.Bounded.{firstBelow}
 use Rattle.model.specs.Memory.{Heap, withTable, setRoot, wordOf, addressOf, phase}
 use Rattle.model.specs.Bitmaps.{allocated, marked, pointer, is}

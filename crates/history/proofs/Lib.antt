@@ -6,8 +6,9 @@
 --
 -- The view of the four buffers as the theory's heap of functions, and each call seen as the theory's: View, ViewShaded, ViewTaken, Finished, Fresh.
 --
--- Both together: Steps (what a call comes to), Refusals (never 12), RecordCalls, CycleCalls, then Runs (requests with a P of their own), Lists,
--- Progress (a cycle can be brought to its end), Theorem (demand-3), Implementations (of programs that meet the contracts).
+-- Both together: Steps (what a call comes to), Refusals (never 12), RecordCalls, CycleCalls, Stages (the sweeps inside a call, and the call, as steps),
+-- then Runs (requests with a P of their own), Lists, Progress (a cycle can be brought to its end), Theorem (demand-3), Implementations (of programs that
+-- meet the contracts).
 --
 -- What a changed call has to supply again: its ..-kept, its ..-view and its ..-happens; a new call besides its clauses in specs/Ledger.antt, Steps,
 -- Runs and Theorem, and its step in the theory.
@@ -23,6 +24,7 @@ pub mod ViewShaded
 pub mod Finished
 pub mod Fresh
 pub mod ViewTaken
+pub mod Stages
 pub mod Refusals
 pub mod Steps
 pub mod RecordCalls

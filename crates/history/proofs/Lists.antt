@@ -1,56 +1,52 @@
--- A list of requests on buffers that pass the audit and agree with a ledger: the theory's steps, the audit at its end, and that what the buffers
--- show of freeing is what the theory counts.
+-- A list of requests on buffers that pass the audit and agree with a ledger: its stages are the theory's steps, and the audit holds at its end.
 use Prim.Native.Nat.{ℕ, _+_}
-use mathlib.Core.List.{List, [], _∷_, _++_}
-use mathlib.Core.Path.{_≡_, refl}
+use mathlib.Core.List.{List, [], _∷_, _++_, append-assoc, append-nil}
+use mathlib.Core.Path.{_≡_}
 use native.Mathlib.Omega.{arith}
-use Rattle.marking.specs.Heap
-use Rattle.marking.specs.Ledger.{Ledger, Event, feed, feedAll}
-use Rattle.marking.specs.Trace.{Steps, ready, more}
+use Rattle.marking.specs.Ledger.{Ledger, Event, feedAll}
 use Rattle.marking.specs.Claim
-use Rattle.marking.specs.Freed.{Reached, reached-step}
+use Rattle.marking.proofs.Freed.{Reached, reached}
 use Rattle.model.specs.Memory.{Heap}
 use Rattle.model.specs.Calls.{Request, step, after}
 use Rattle.model.proofs.Facts.{Audited}
 use Rattle.history.specs.Ledger.{onPages}
-use Rattle.history.specs.Demand.{events, eventOn, frees, freesIn, freedSince}
+use Rattle.history.specs.Demand.{eventOn, stagesOf, stages, freesIn}
 use Rattle.history.proofs.View.{view}
-use Rattle.history.proofs.Runs.{made}
+use Rattle.history.proofs.Stages.{Along, none, more, join, steps, frees-is, during, frees-join}
+use Rattle.history.proofs.Runs.{Made, made, lone}
 
--- what the buffers show of a call's freeing
-pub frees-is : (x : ℕ) (L : Ledger) (h : Heap) (e : Event) (h′ : Heap) → frees x L h e h′ ≡ Claim.freedIn x L (view h) e (view h′)
-unfolding frees Claim.freedIn view Heap.wordOf
-frees-is x L h e h′ = refl
+-- a call, by its stages
+pub along : {P : ℕ} {h : Heap} {r : Request} → Made P h r → Along P h (stagesOf h r) (step h r .heap)
+along m = join (m .sweeps) (more (m .happens .step) none)
 
-pub record Course (P : ℕ) (h : Heap) (L : Ledger) (n : ℕ → ℕ) (rs : List Request) : Type 0 where
-  pub steps : Steps (view (onPages P h)) (events h rs) (view (onPages P (after h rs)))
+pub record Course (P : ℕ) (h : Heap) (rs : List Request) : Type 0 where
+  pub along : Along P h (stages h rs) (after h rs)
   pub audited : Audited (onPages P (after h rs))
-  pub during : (x : ℕ) → freesIn P x L h rs ≡ Claim.freedDuring x L steps
-  pub since : (x : ℕ) → freedSince P x (n x) L h rs ≡ Claim.freedSince x (n x) L steps
 
-pub course : (P : ℕ) (h : Heap) {L : Ledger} {n : ℕ → ℕ} → Audited (onPages P h) → Reached (view (onPages P h)) L n → (rs : List Request) → Course P h L n rs
-unfolding events after freesIn freedSince Claim.freedDuring Claim.freedSince
-course P h F N [] = record { steps = ready; audited = F; during = λ x. refl; since = λ x. refl }
-course P h {L} {n} F N (r ∷ rs) =
+pub course : (P : ℕ) (h : Heap) {L : Ledger} {n : ℕ → ℕ} → Audited (onPages P h) → Reached (view (onPages P h)) L n → (rs : List Request) → Course P h rs
+unfolding stages after
+course P h F N [] = record { along = none; audited = F }
+course P h F N (r ∷ rs) =
     let m = made P h F (N .agrees) r in
-    let C = course P (step h r .heap) (m .audited) (reached-step (m .step) N) rs in
-    record {
-      steps = more (m .step) (C .steps);
-      audited = C .audited;
-      during = λ x. rw (frees-is x L (onPages P h) (eventOn h r) (onPages P (step h r .heap)), C .during x);
-      since = λ x. rw (frees-is x L (onPages P h) (eventOn h r) (onPages P (step h r .heap))) (C .since x);
-    }
+    let C = course P (step h r .heap) (m .happens .audited) (reached (steps (along m)) N) rs in
+    record { along = join (along m) (C .along); audited = C .audited }
 
 -- one call more
-frees-last : (P x : ℕ) (L : Ledger) (h : Heap) (rs : List Request) (r : Request) → let g = after h rs in
-    freesIn P x L h (rs ++ (r ∷ [])) ≡ freesIn P x L h rs + frees x (feedAll (events h rs) L) (onPages P g) (eventOn g r) (onPages P (step g r .heap))
-unfolding freesIn events after feedAll
-frees-last P x L h [] r = omega arith
-frees-last P x L h (q ∷ rs) r = omega (arith, frees-last P x (feed (eventOn h q) L) (step h q .heap) rs r)
+stages-last : (h : Heap) (rs : List Request) (r : Request) → stages h (rs ++ (r ∷ [])) ≡ stages h rs ++ stagesOf (after h rs) r
+unfolding stages after
+stages-last h [] r = append-nil (stagesOf h r)
+stages-last h (q ∷ rs) r = rw (stages-last (step h q .heap) rs r, append-assoc (stagesOf h q) (stages (step h q .heap) rs) (stagesOf (after (step h q .heap) rs) r))
 
 -- .. the one that ends a cycle
-pub to-end : {P : ℕ} {h : Heap} {L : Ledger} {n : ℕ → ℕ} {rs : List Request} (C : Course P h L n rs) (x : ℕ) (r : Request) →
-    eventOn (after h rs) r ≡ Event.endCycle →
-    freesIn P x L h (rs ++ (r ∷ [])) ≡ Claim.freedToEnd x L (C .steps) (view (onPages P (step (after h rs) r .heap)))
-to-end {P} {h} {L} {n} {rs} C x r e = let g = after h rs in
-    rw (frees-last P x L h rs r, C .during x, frees-is x (feedAll (events h rs) L) (onPages P g) (eventOn g r) (onPages P (step g r .heap)), e)
+pub to-end : {P : ℕ} {h : Heap} {rs : List Request} (C : Course P h rs) (x : ℕ) (L : Ledger) (r : Request) → eventOn (after h rs) r ≡ Event.endCycle →
+    freesIn P x L h (stages h (rs ++ (r ∷ []))) ≡ Claim.freedToEnd x L (steps (C .along)) (view (onPages P (step (after h rs) r .heap)))
+unfolding freesIn
+to-end {P} {h} {rs} C x L r e = let g = after h rs in
+    rw (
+      stages-last h rs r,
+      frees-join (C .along) x L (stagesOf g r),
+      during (C .along) x L,
+      lone g r e tt,
+      frees-is x (feedAll _ L) (onPages P g) (eventOn g r) (onPages P (step g r .heap)),
+      e,
+    ) (omega arith)

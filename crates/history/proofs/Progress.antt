@@ -9,18 +9,21 @@ use native.Mathlib.Omega.{arith}
 use lib.ListN.{length, replicate}
 use lib.Dec.{T, eqb, ltb}
 use borrow.Author.Tests.{ltb-true, ltb-false, lt-ltb, le-ltb, eq-eqb, ne-eqb, eqb-true, eqb-false}
+use Rattle.marking.specs.WordHeap.{WordHeap}
 use Rattle.marking.specs.Ledger.{Ledger, Event, feed}
+use Rattle.marking.specs.WordHeap.{Phase}
 use Rattle.marking.specs.Trace.{Step}
-use Rattle.marking.specs.Advance.{toMark, Advances, advance}
+use Rattle.marking.specs.Advance.{toMark, Advances}
+use Rattle.marking.proofs.Advance.{advancing}
 use Rattle.marking.specs.Advance
-use Rattle.marking.specs.Freed.{Reached, reached-step}
+use Rattle.marking.proofs.Freed.{Reached, reached-step}
 use Rattle.model.specs.Bounded.{countBelow, someBelow}
 use Rattle.model.specs.Memory.{Heap, phase, state, globalsState, words}
 use Rattle.model.specs.Answers.{_given_, _orElse_}
 use Rattle.model.specs.Spans.{kindEntry, startsSpan, isUnswept}
 use Rattle.model.specs.Checks.{phaseRefusal, openRefusal}
 use Rattle.model.specs.Cycle.{sweptTable, start, scanStack, scanGlobals, markStep, finish, sweepStep, firstGray, firstUnswept, finishRefusal}
-use Rattle.model.specs.Calls.{Start, ScanGlobals, MarkStep, Finish, SweepStep, ScanStack, run, Request, step, after, audited}
+use Rattle.model.specs.Calls.{Start, ScanGlobals, MarkStep, Finish, SweepStep, ScanStack, run, Request, step, sweepsIn, sweepsOf, after, audited}
 use Rattle.model.proofs.Tests.{of-true, is-true}
 use Rattle.model.proofs.Bounded.{some-iff}
 use Rattle.model.proofs.Rules.{tests}
@@ -34,7 +37,7 @@ use Rattle.history.proofs.Roots.{root-other}
 use Rattle.history.proofs.SweptTable.{unswept-less}
 use Rattle.history.proofs.View.{view}
 use Rattle.history.proofs.CycleCalls.{first-unswept}
-use Rattle.history.proofs.Runs.{made}
+use Rattle.history.proofs.Runs.{made, at-once}
 
 -- a start in phase off, a finish with nothing gray
 begin : {h : Heap} → Audited h → phase h ≡ 0 → event Start (run h Start .answer) ≡ Event.start
@@ -90,7 +93,7 @@ see-globals : (h : Heap) → globalsState h ≡ 2 → T (view h .bits .grayGloba
 unfolding view
 see-globals h e = rw e tt
 
-see-mark : (h : Heap) → phase h ≡ 1 → view h .phase ≡ Rattle.marking.specs.Calls.mark
+see-mark : (h : Heap) → phase h ≡ 1 → view h .phase ≡ Phase.mark
 unfolding view
 see-mark h e = rw e
 
@@ -110,12 +113,13 @@ record Lowers (P : ℕ) (h : Heap) (L : Ledger) : Type 0 where
 
 lowers : (P : ℕ) (h : Heap) {L : Ledger} {n : ℕ → ℕ} → Audited (onPages P h) → Reached (view (onPages P h)) L n → phase h ≡ 1 →
     finishRefusal (onPages P h) ≢ 0 → Lowers P h L
+unfolding sweepsIn
 lowers P h {L} {n} F N one d = some (grays (onPages P h) one d)
   where
-    by : (r : Request) (e : Event) → eventOn h r ≡ e → phase (step h r .heap) ≡ 1 → Advances 16 (view (onPages P h)) e →
+    by : (r : Request) (e : Event) → sweepsOf h r ≡ [] → eventOn h r ≡ e → phase (step h r .heap) ≡ 1 → Advances 16 (view (onPages P h)) e →
         ((rs : List Request) → Collects P rs → Collects P (r ∷ rs)) → Lowers P h L
-    by r e p two a c =
-        let m = made P h F (N .agrees) r in
+    by r e z p two a c =
+        let m = at-once (made P h F (N .agrees) r) z in
         let s : Step (view (onPages P h)) e (view (onPages P (step h r .heap))) =
         subst (λ (x : Event). Step (view (onPages P h)) x (view (onPages P (step h r .heap)))) p (m .step) in
         record {
@@ -126,17 +130,17 @@ lowers P h {L} {n} F N one d = some (grays (onPages P h) one d)
           marks = two;
           audited = m .audited;
           reached = reached-step s N;
-          falls = advance (N .agrees) (see-mark (onPages P h) one) 16 s a;
+          falls = advancing (N .agrees) .marks 16 (see-mark (onPages P h) one) s a;
         }
 
     some : (((s : ℕ) × (s < 16) × (state h s ≡ 2)) ⊎ ((globalsState h ≡ 2) ⊎ (firstGray (onPages P h) < words (onPages P h)))) → Lowers P h L
     some (inl x) = let y = scan-event F one (x .0) (x .1) (x .2) in
-        by (record { pages = P; call = ScanStack (x .0) }) (Event.scanStack (x .0)) (y .0) (y .1)
+        by (record { pages = P; call = ScanStack (x .0) }) (Event.scanStack (x .0)) refl (y .0) (y .1)
         (Advance.scan (x .0) (x .1) (see-stack (onPages P h) (x .0) (x .1) (x .2))) (λ rs c. Collects.scan (x .0) c)
     some (inr (inl x)) = let y = globals-event F one x in
-        by (record { pages = P; call = ScanGlobals }) Event.scanGlobals (y .0) (y .1) (Advance.globals (see-globals (onPages P h) x)) (λ rs c. Collects.globals c)
+        by (record { pages = P; call = ScanGlobals }) Event.scanGlobals refl (y .0) (y .1) (Advance.globals (see-globals (onPages P h) x)) (λ rs c. Collects.globals c)
     some (inr (inr x)) = let y = mark-event F one x in
-        by (record { pages = P; call = MarkStep }) Event.markStep (y .0) (y .1) Advance.step (λ rs c. Collects.mark c)
+        by (record { pages = P; call = MarkStep }) Event.markStep refl (y .0) (y .1) Advance.step (λ rs c. Collects.mark c)
 
 -- THE MARK PHASE: k is at least what is left to mark
 pub record Finishing (P k : ℕ) (h : Heap) : Type 0 where
@@ -248,9 +252,10 @@ record Sweeps (P : ℕ) (h : Heap) : Type 0 where
 
 sweeps-one : (P : ℕ) (h : Heap) {L : Ledger} {n : ℕ → ℕ} → Audited (onPages P h) → Reached (view (onPages P h)) L n → phase h ≡ 2 →
     firstUnswept P (h .table) < P → Sweeps P h
+unfolding sweepsIn
 sweeps-one P h {L} F N two l =
     let e = sweep-event F two l in
-    let m = made P h F (N .agrees) (sweepOf P) in
+    let m = at-once (made P h F (N .agrees) (sweepOf P)) refl in
     let u = first-unswept P (h .table) l in
     record {
       ledger = feed (eventOn h (sweepOf P)) L;

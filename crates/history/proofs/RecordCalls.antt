@@ -8,7 +8,7 @@ use native.Mathlib.Omega.{arith}
 use lib.ListN.{set}
 use lib.Dec.{T}
 use borrow.Author.Tests.{lt-ltb, eq-eqb}
-use Rattle.marking.specs.Heap
+use Rattle.marking.specs.WordHeap
 use Rattle.marking.specs.Trace.{Step}
 use Rattle.marking.specs.Trace
 use Rattle.model.specs.Memory.{Heap, withArena, withBits, withTable, setRoot, slot, global, word, wordOf, addressOf, slotAt}
@@ -109,7 +109,7 @@ module _ {h : Heap} (F : Audited h) where
   record-named : (s j : ℕ) → s < 16 → j < 32 → slot h s j ≢ 0 → T (is allocated h (recordAt h s j)) × T (kept h (recordAt h s j)) × (recordAt h s j < 1024 * h .pages)
   record-named s j a b d = named (F .bits) (slot h s j) d (root s j a b)
 
-  see-record : (s j : ℕ) → s < 16 → j < 32 → Heap.wordOf (view h .slots s j) ≡ recordAt h s j
+  see-record : (s j : ℕ) → s < 16 → j < 32 → wordOf (view h .slots s j) ≡ recordAt h s j
   see-record s j a b = rw (see-slot h s j a b) (see-at (slot h s j))
 
   pub load-happens : (s i j f : ℕ) → let o = load h s i j f in Happens h (Load s i j f) (o .answer) (o .heap)

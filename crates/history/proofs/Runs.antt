@@ -1,33 +1,39 @@
 -- A request, with its own P, on buffers of P pages that pass the audit: with another P it is refused by the lengths, else it is its call. `made`
--- says what it comes to.
+-- says what it comes to: the sweeps inside it, and then the call on the heap that they leave.
 use Prim.Native.Nat.{ℕ}
 use mathlib.Core.Bool.{Bool, true, false}
+use mathlib.Core.List.{List, [], map}
 use mathlib.Core.Logic.{_≢_}
 use mathlib.Core.Path.{_≡_, refl, subst}
 use native.Mathlib.Omega.{arith}
-use lib.Dec.{eqb}
+use lib.Dec.{T, eqb}
 use borrow.Author.Tests.{eqb-true, eqb-false}
-use Rattle.marking.specs.Calls.{State}
-use Rattle.marking.specs.Represents.{Layout}
-use Rattle.marking.specs.Ledger.{Ledger}
+use Rattle.marking.proofs.Operations.{State}
+use Rattle.marking.proofs.Represents.{Layout}
+use Rattle.marking.specs.Effect.{Effect, setsUp, starts, works, finishes, sweeps, ends}
+use Rattle.marking.specs.Effect
+use Rattle.marking.specs.Ledger.{Ledger, Event, effect}
 use Rattle.marking.specs.Trace.{Step}
 use Rattle.marking.specs.Trace
-use Rattle.marking.specs.Agreement.{Agrees}
+use Rattle.marking.proofs.Agreement.{Agrees}
 use Rattle.model.specs.Memory.{Heap, lent, goodBuffers}
 use Rattle.model.specs.Answers.{Outcome, _given_, _orElse_}
 use Rattle.model.specs.Allocate.{allocate}
 use Rattle.model.specs.Records.{setup, fresh, openStack, closeStack, emptied, copy, clear, load, store, put, get, loadGlobal, storeGlobal}
 use Rattle.model.specs.Cycle.{start, scanStack, scanGlobals, markStep, finish, sweepStep}
-use Rattle.model.specs.Calls.{entry, audited, Call, Setup, Audit, Start, ScanGlobals, MarkStep, Finish, SweepStep, Open, Close, ScanStack, Clear, Copy, Get, LoadGlobal, StoreGlobal, Allocate, Load, Store, Put, run, Request, step}
+use Rattle.model.specs.Calls.{entry, audited, Call, Setup, Audit, Start, ScanGlobals, MarkStep, Finish, SweepStep, Open, Close, ScanStack, Clear, Copy, Get, LoadGlobal, StoreGlobal, Allocate, Load, Store, Put, run, Request, step, sweepsIn, sweepsOf}
+use Rattle.model.specs.declared.Answer.{Answer}
 use Rattle.model.specs.declared.Answer.the-variants.{Refused, Done}
 use Rattle.model.proofs.Tests.{of-true, is-true}
 use Rattle.model.proofs.Facts.{Audited, Sized}
 use Rattle.model.proofs.Audit.{sized, sized-good}
 use Rattle.model.proofs.Checks.{entry-passes}
-use Rattle.history.specs.Ledger.{onPages}
+use Rattle.history.specs.Ledger.{event, onPages}
+use Rattle.history.specs.Demand.{eventOn, sweepStage}
 use Rattle.history.proofs.Fresh.{fresh-view, fresh-kept}
 use Rattle.history.proofs.View.{view}
 use Rattle.history.proofs.Steps.{Happens, is-refused}
+use Rattle.history.proofs.Stages.{Along, none, no-sweeps}
 use Rattle.history.proofs.RecordCalls.{open-happens, close-happens, allocate-happens, copy-happens, clear-happens, load-happens, store-happens, put-happens, get-happens, load-global-happens, store-global-happens}
 use Rattle.history.proofs.CycleCalls.{start-happens, scan-stack-happens, scan-globals-happens, mark-step-happens, finish-happens, sweep-step-happens}
 
@@ -130,13 +136,15 @@ other-pages P p h Z d = go (goodBuffers (onPages p h)) refl
     go false e = refl
 
 -- what a request comes to
-pub made : (P : ℕ) (h : Heap) → Audited (onPages P h) → {L : Ledger} {S : State} {Y : Layout} → Agrees (view (onPages P h)) L S Y → (r : Request) →
-    Happens (onPages P h) (r .call) (step h r .answer) (onPages P (step h r .heap))
-made P h F R r = go (eqb (r .pages) P) refl
-  where
-    c : Call
-    c = r .call
+pub record Made (P : ℕ) (h : Heap) (r : Request) : Type 0 where
+  pub swept : Heap
+  pub sweeps : Along P h (map sweepStage (sweepsOf h r)) swept
+  pub happens : Happens (onPages P swept) (r .call) (step h r .answer) (onPages P (step h r .heap))
 
+pub made : (P : ℕ) (h : Heap) → Audited (onPages P h) → {L : Ledger} {S : State} {Y : Layout} → Agrees (view (onPages P h)) L S Y → (r : Request) → Made P h r
+unfolding sweepsIn
+made P h F R r = record { swept = h; sweeps = none; happens = go (eqb (r .pages) P) refl }
+  where
     go : (b : Bool) → eqb (r .pages) P ≡ b → Happens (onPages P h) (r .call) (run (onPages (r .pages) h) (r .call) .answer)
         (onPages P (run (onPages (r .pages) h) (r .call) .heap))
     go true e =
@@ -147,3 +155,26 @@ made P h F R r = go (eqb (r .pages) P) refl
     go false e =
         let B = bad-run P (onPages (r .pages) h) (other-pages P (r .pages) h (F .sized) (eqb-false (r .pages) P e)) (r .call) in
         rw (B .answer, B .heap) (is-refused F (r .call) 1 (omega arith) (omega arith))
+
+-- a call that sweeps nothing inside is one step
+pub at-once : {P : ℕ} {h : Heap} {r : Request} → Made P h r → sweepsOf h r ≡ [] →
+    Happens (onPages P h) (r .call) (step h r .answer) (onPages P (step h r .heap))
+at-once {P} {h} {r} m e = subst (λ (g : Heap). Happens (onPages P g) (r .call) (step h r .answer) (onPages P (step h r .heap)))
+    (no-sweeps (subst (λ (gs : List Heap). Along P h (map sweepStage gs) (m .swept)) e (m .sweeps))) (m .happens)
+
+-- .. and so is each that a cycle goes by: an allocation, which may sweep, is none of them
+abbrev pub counts : Effect → Bool
+counts Effect.none = false
+counts setsUp = true
+counts starts = true
+counts works = true
+counts finishes = true
+counts sweeps = true
+counts ends = true
+
+sweeps-none : (h : Heap) (c : Call) (a : Answer) → T (counts (effect (event c a))) → sweepsIn h c ≡ []
+unfolding sweepsIn
+sweeps-none h c a t = refl
+
+pub lone : (h : Heap) (r : Request) {e : Event} → eventOn h r ≡ e → T (counts (effect e)) → sweepsOf h r ≡ []
+lone h r p t = sweeps-none (onPages (r .pages) h) (r .call) (step h r .answer) (rw p t)

@@ -7,8 +7,8 @@ use mathlib.Core.Path.{_≡_, refl, ap, sym}
 use native.Mathlib.Omega.{arith}
 use lib.Dec.{T, eqb}
 use borrow.Author.Tests.{lt-ltb, eq-eqb, ne-eqb, eqb-true, eqb-false}
-use Rattle.marking.specs.Calls.{Phase, off, mark, sweep}
-use Rattle.marking.specs.Heap
+use Rattle.marking.specs.WordHeap.{Phase, off, mark, sweep, LegalColours}
+use Rattle.marking.specs.WordHeap
 use Rattle.marking.specs.Trace.{Step}
 use Rattle.marking.specs.Trace
 use Rattle.model.specs.Memory.{Heap, choose, setRoot, slot, global, state, phase, word, words, wordOf, slotAt}
@@ -34,7 +34,7 @@ Gives (Clear s i) a h = a ≡ Value (view h .slots s i)
 Gives (Load s i j f) a h = a ≡ Value (view h .slots s i)
 Gives (Store s j f k) a h = Unit {0}
 Gives (Put s j f v) a h = Unit {0}
-Gives (Get s j f) a h = a ≡ Value (view h .arena (Heap.wordOf (view h .slots s j) + f))
+Gives (Get s j f) a h = a ≡ Value (view h .arena (wordOf (view h .slots s j) + f))
 Gives (LoadGlobal s i g) a h = a ≡ Value (view h .slots s i)
 Gives (StoreGlobal s g i) a h = Unit {0}
 Gives Start a h = Unit {0}
@@ -95,7 +95,7 @@ off-is n e = go (eqb n 0) refl (eqb n 1) e
     go false p true q = absurd (omega (arith, ap code q))
     go false p false q = absurd (omega (arith, ap code q))
 
-pub audit-view : {h : Heap} → Audited h → Heap.Audited (view h)
+pub audit-view : {h : Heap} → Audited h → LegalColours (view h)
 unfolding view lateAt
 audit-view {h} F = record {
   markedAllocated = F .bits .marks;
@@ -137,6 +137,5 @@ pub see-word : (h : Heap) (w : ℕ) → view h .arena w ≡ word h w
 unfolding view
 see-word h w = refl
 
-pub see-at : (a : ℕ) → Heap.wordOf a ≡ wordOf a
-unfolding Heap.wordOf
+pub see-at : (a : ℕ) → wordOf a ≡ wordOf a
 see-at a = refl

@@ -9,10 +9,10 @@ use native.Mathlib.Omega.{arith}
 use lib.ListN.{getD, set, length}
 use lib.Dec.{eqb, ltb}
 use borrow.Author.Tests.{ltb-true, ltb-false, lt-ltb, eq-eqb, ne-eqb, eqb-true, eqb-false}
-use Rattle.marking.specs.Updates.{update, update2, update-is, update2-is}
-use Rattle.marking.specs.Calls.{Phase, off, mark, sweep, marking}
-use Rattle.marking.specs.Heap
-use Rattle.marking.specs.Heap.{ColourBits, Elements, heapAssign, heapPut, heapStart, heapEndCycle}
+use Rattle.marking.specs.Updates.{update, update2}
+use Rattle.marking.proofs.Updates.{update-is, update2-is}
+use Rattle.marking.specs.WordHeap.{Phase, off, mark, sweep, marking, ColourBits, Elements, heapAssign, heapPut, heapStart, heapEndCycle, WordHeap}
+use Rattle.marking.specs.WordHeap
 use Rattle.model.specs.Bounded.{firstBelow}
 use Rattle.model.specs.Memory.{Heap, withArena, withRoots, setRoot, slotAt, phase}
 use Rattle.model.specs.Bitmaps.{allocated, marked, gray, pointer, is}
@@ -61,7 +61,7 @@ globalsOf r = λ g. cond (ltb g 32) (getD r (512 + g) 0) 0
 abbrev pub states : (ℕ → Bool) → List ℕ → ℕ → Bool
 states f r = λ s. ltb s 16 && f (getD r (544 + s) 0)
 
-unfoldable pub view : Heap → Heap.Heap
+unfoldable pub view : Heap → WordHeap
 view h = record {
   arena = λ w. getD (h .arena) w 0;
   allocated = is allocated h;
@@ -78,7 +78,7 @@ view h = record {
 pub colours-eq : {B C : ColourBits} → B .marked ≡ C .marked → B .gray ≡ C .gray → B .grayGlobals ≡ C .grayGlobals → B .grayStack ≡ C .grayStack → B ≡ C
 colours-eq a b c d = λ i. record { marked = a i; gray = b i; grayGlobals = c i; grayStack = d i }
 
-pub heap-eq : {H K : Heap.Heap} → H .arena ≡ K .arena → H .allocated ≡ K .allocated → H .elements ≡ K .elements → H .unswept ≡ K .unswept → H .bits ≡ K .bits →
+pub heap-eq : {H K : WordHeap} → H .arena ≡ K .arena → H .allocated ≡ K .allocated → H .elements ≡ K .elements → H .unswept ≡ K .unswept → H .bits ≡ K .bits →
     H .slots ≡ K .slots → H .globals ≡ K .globals → H .opened ≡ K .opened → H .phase ≡ K .phase → H ≡ K
 heap-eq a b c d e f g h j = λ i. record { arena = a i; allocated = b i; elements = c i; unswept = d i; bits = e i; slots = f i; globals = g i; opened = h i; phase = j i }
 

@@ -8,9 +8,9 @@ use native.Mathlib.Omega.{arith}
 use lib.ListN.{getD, set, length}
 use lib.Dec.{eqb, ltb}
 use borrow.Author.Tests.{ltb-true, ltb-false, lt-ltb, ne-eqb, eqb-true, eqb-false}
-use Rattle.marking.specs.Updates.{update, update-is}
-use Rattle.marking.specs.Calls.{marking}
-use Rattle.marking.specs.Heap.{ColourBits, shadeBits, shadeAllBits, heapStore, heapStoreGlobal, heapResetStack, heapScanStack, heapScanGlobals, heapMarkStep, stackScanned}
+use Rattle.marking.specs.Updates.{update}
+use Rattle.marking.proofs.Updates.{update-is}
+use Rattle.marking.specs.WordHeap.{marking, ColourBits, shadeBits, shadeAllBits, heapStore, heapStoreGlobal, heapResetStack, heapScanStack, heapScanGlobals, heapMarkStep, stackScanned}
 use Rattle.model.specs.Memory.{Heap, withArena, withBits, setRoot, putWords, globalAt, stateAt, slot, global, word, phase}
 use Rattle.model.specs.Bitmaps.{Part, allocated, marked, gray, pointer, is, putBit}
 use Rattle.model.specs.Spans.{pointerCount}
@@ -86,7 +86,7 @@ emptied-view {h} F s n b l e2 e0 = heap-eq refl refl refl refl
 -- one value shaded
 pub shade-view : (P : ℕ) (t : List ℕ) (v : ℕ) (b : List ℕ) → There P v → Four (1024 * P) b →
     (r : List ℕ) → coloursOf P (shade P t v b) r ≡ shadeBits (scansAt t) v (coloursOf P b r)
-unfolding shadeBits scansAt Rattle.marking.specs.Heap.wordOf
+unfolding shadeBits scansAt
 shade-view P t v b h f r = colours-eq (fun-ext (shade-marked P t v b h f)) (fun-ext (shade-gray P t v b h f)) refl refl
 
 -- many values shaded

@@ -8,9 +8,10 @@ use native.Mathlib.Omega.{arith}
 use lib.ListN.{getD}
 use lib.Dec.{T, eqb, ltb}
 use borrow.Author.Tests.{lt-leb, ne-eqb}
-use Rattle.marking.specs.Updates.{update, update-is}
-use Rattle.marking.specs.Heap
-use Rattle.marking.specs.Heap.{Elements, Alike, heapAllocate, heapSweep}
+use Rattle.marking.specs.Updates.{update}
+use Rattle.marking.proofs.Updates.{update-is}
+use Rattle.marking.specs.WordHeap
+use Rattle.marking.specs.WordHeap.{Elements, Alike, heapAllocate, heapSweep, LegalColours}
 use Rattle.marking.specs.Ledger.{Event}
 use Rattle.marking.specs.Trace.{Step}
 use Rattle.marking.specs.Trace
@@ -144,7 +145,7 @@ module _ {h₀ : Heap} {u : List ℕ} {w n p : ℕ} (F₀ : Audited h₀) (C : C
   unfolding lateAt
   lates v x = rw (C .flags v x, C .used v x)
 
-  pub taken-step : Heap.Audited (view h₀) → T (view h₀ .opened s) → Step (view h₀) (Event.allocate s i p n (8192 + 8 * w)) (view (taken s i w n p (withTable u h₀)))
+  pub taken-step : LegalColours (view h₀) → T (view h₀ .opened s) → Step (view h₀) (Event.allocate s i p n (8192 + 8 * w)) (view (taken s i w n p (withTable u h₀)))
   unfolding view wordsAt
   taken-step A o =
       rw is-new (Trace.Step.allocate s i p n w (λ x. getD (after .arena) x 0) (elementsOf u (is pointer after)) (lateAt u) A o hi apart
@@ -189,6 +190,6 @@ module _ {h : Heap} (F : Audited h) (s : ℕ) (span : IsSpan (h .table) s) (unsw
         like-words L,
       )
 
-  pub swept-step : Heap.Audited (view h) → phase h ≡ 2 → Step (view h) Event.sweepStep (view (swept s h))
+  pub swept-step : LegalColours (view h) → phase h ≡ 2 → Step (view h) Event.sweepStep (view (swept s h))
   unfolding view
   swept-step A two = rw is-sweep (Trace.Step.sweepStep q (elementsOf (sweptTable h s) (is pointer then)) A (rw two) was-late′ stay-alike)

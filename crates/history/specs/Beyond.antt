@@ -16,7 +16,7 @@ use Rattle.model.specs.Memory.{Heap, words, phase, wordOf}
 use Rattle.model.specs.Bitmaps.{is, allocated, marked}
 use Rattle.model.specs.Calls.{Start, ScanGlobals, MarkStep, Finish, SweepStep, ScanStack, Request, step, after}
 use Rattle.history.specs.Ledger.{refusal, onPages}
-use Rattle.history.specs.Demand.{eventOn, events, ledger, Place, answerAt, freesIn}
+use Rattle.history.specs.Demand.{eventOn, stages, events, ledger, Place, answerAt, freesIn}
 
 -- the mark phase of a cycle within the list, from its start to its finish
 pub record Marking (h : Heap) (rs : List Request) : Type 0 where
@@ -83,7 +83,7 @@ pub record Beyond (P : ℕ) (h : Heap) (rs : List Request) : Type 0 where
       workIn (events h₁ (M .between)) ≤ allocatedIn (onPages P (after h₁ (M .between)))
   -- What a cycle frees, exactly. `Saved` says it in ledger terms alone, from the start on: a scan saves all that the scanned slots or globals reach,
   -- a store all that the old and the new value reach, a birth the record born. The records marked at the finish are those saved by then; of the
-  -- records allocated then, the sweep steps free each that was not saved once, and no other.
+  -- records allocated then, the sweeps free each that was not saved once, and no other.
   pub marked : (M : Marking h rs) (x : ℕ) →
       let h₁ = step (after h (M .before)) (M .first) .heap in
       let es = events h₁ (M .between) in
@@ -95,9 +95,10 @@ pub record Beyond (P : ℕ) (h : Heap) (rs : List Request) : Type 0 where
       let h₂ = after h₁ (W .marking) in
       let es = events h₁ (W .marking) in
       let L = feedAll es (ledger h (W .before)) in
+      let h₃ = step h₂ (W .finish) .heap in
       0 < x → x ≤ L .count → T (isAllocated L (onPages P h₂) x) →
-      (¬ (Saved es (ledger h (W .before)) x) → freesIn P x L (step h₂ (W .finish) .heap) (W .sweeping ++ (W .last ∷ [])) ≡ 1) ×
-      (Saved es (ledger h (W .before)) x → freesIn P x L (step h₂ (W .finish) .heap) (W .sweeping ++ (W .last ∷ [])) ≡ 0)
+      (¬ (Saved es (ledger h (W .before)) x) → freesIn P x L h₃ (stages h₃ (W .sweeping ++ (W .last ∷ []))) ≡ 1) ×
+      (Saved es (ledger h (W .before)) x → freesIn P x L h₃ (stages h₃ (W .sweeping ++ (W .last ∷ []))) ≡ 0)
   -- Every cycle can be brought to its end. After the list a start is accepted, or some scans and mark steps, at most 17 (the stacks and the globals)
   -- plus the allocated records, make finish accepted, or some sweep steps, no more than there are pages, leave nothing to sweep.
   pub phases : phase (after h rs) ≤ 2

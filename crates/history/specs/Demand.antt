@@ -2,19 +2,22 @@
 -- requests has a P of its own and any numbers, is accepted or refused, and gets the buffers as the last one left them. What the calls do is what the
 -- contracts cite (crate model, specs/Calls.antt); the ledger is in Ledger.antt here and in the crate marking (specs/Ledger.antt there). The record
 -- `Demand` is the claim; proofs/Theorem.antt proves it.
+--
+-- Answers, the ledger and cycles go from call to call. What is freed goes from stage to stage: a call's stages are the sweeps inside it and then the
+-- call itself, so that a record counts as freed also where the same call gives its element out again.
 use Prim.Native.Nat.{ℕ, _+_, _≤_, _<_}
 use mathlib.Core.Bool.{not, cond}
-use mathlib.Core.List.{List, [], _∷_, _++_}
+use mathlib.Core.List.{List, [], _∷_, _++_, map}
 use mathlib.Core.Logic.{_≢_}
 use mathlib.Core.Path.{_≡_}
 use lib.ListN.{length}
 use lib.Dec.{T, eqb}
-use Rattle.marking.specs.Effect.{lasting, inCycle, turnedOff}
+use Rattle.marking.specs.Effect.{lasting, inCycle, isSweep, turnedOff}
 use Rattle.marking.specs.Ledger.{Ledger, Event, effect, Each, empty, feed, feedAll, value, word as ledgerWord, Reachable, lastBorn}
 use Rattle.model.specs.Memory.{Heap, word, slot, global, state, wordOf, addressOf}
 use Rattle.model.specs.Bitmaps.{is, allocated}
 use Rattle.model.specs.Spans.{owner, pageCount, kindEntry}
-use Rattle.model.specs.Calls.{Call, Setup, Audit, Start, ScanGlobals, MarkStep, Finish, SweepStep, Open, Close, ScanStack, Clear, Copy, Get, LoadGlobal, StoreGlobal, Allocate, Load, Store, Put, Request, step, after}
+use Rattle.model.specs.Calls.{Call, Setup, Audit, Start, ScanGlobals, MarkStep, Finish, SweepStep, Open, Close, ScanStack, Clear, Copy, Get, LoadGlobal, StoreGlobal, Allocate, Load, Store, Put, Request, step, sweepsOf, after}
 use Rattle.model.specs.declared.Answer.{Answer}
 use Rattle.model.specs.declared.Answer.the-variants.{Value}
 use Rattle.history.specs.Ledger.{accepted, event, onPages}
@@ -23,31 +26,57 @@ use Rattle.history.specs.Ledger.{accepted, event, onPages}
 abbrev pub setupOf : ℕ → Request
 setupOf P = record { pages = P; call = Setup }
 
--- the event of a call on buffers h, and those of a list of calls, each on the buffers as the last one left them
+-- the event of a call on buffers h
 abbrev pub eventOn : Heap → Request → Event
 eventOn h r = event (r .call) (step h r .answer)
 
-unfoldable pub events : Heap → List Request → List Event
-events h [] = []
-events h (r ∷ rs) = eventOn h r ∷ events (step h r .heap) rs
+-- a stage: what the ledger is fed, and the heap afterwards
+pub record Stage : Type 0 where
+  pub event : Event
+  pub heap : Heap
+
+-- a sweep inside a call is the event of a sweep step; the ledger is left alone
+abbrev pub sweepStage : Heap → Stage
+sweepStage h = record { event = Event.sweepStep; heap = h }
+
+-- the stages of a call on buffers h: the sweeps inside it, whether it is accepted or refused then, and the call itself
+abbrev pub stagesOf : Heap → Request → List Stage
+stagesOf h r = map sweepStage (sweepsOf h r) ++ (record { event = eventOn h r; heap = step h r .heap } ∷ [])
+
+-- those of a list of calls, each on the buffers as the last one left them
+unfoldable pub stages : Heap → List Request → List Stage
+stages h [] = []
+stages h (r ∷ rs) = stagesOf h r ++ stages (step h r .heap) rs
+
+-- the events of stages, and the heap at the end of stages from h on
+abbrev pub eventsOf : List Stage → List Event
+eventsOf ss = map (λ s. s .event) ss
+
+unfoldable pub endOf : Heap → List Stage → Heap
+endOf h [] = h
+endOf h (s ∷ ss) = endOf (s .heap) ss
+
+-- what the ledger is fed by a list of calls
+abbrev pub events : Heap → List Request → List Event
+events h rs = eventsOf (stages h rs)
 
 -- the ledger after a list of calls; before the list stands an accepted setup, which "empties it"
 abbrev pub ledger : Heap → List Request → Ledger
 ledger h rs = feedAll (events h rs) empty
 
--- a place in the list rs: one of its calls, with those before and after it
-pub record Place (rs : List Request) : Type 0 where
-  pub before : List Request
-  pub request : Request
-  pub later : List Request
-  pub list : rs ≡ before ++ (request ∷ later)
+-- a place in a list, of calls or of stages: one of them, with those before and after it
+pub record Place {A : Type 0} (l : List A) : Type 0 where
+  pub before : List A
+  pub here : A
+  pub later : List A
+  pub list : l ≡ before ++ (here ∷ later)
 
--- at a place: the answer and the event, the ledger before and after, and the heap of P pages before and after
+-- at a call: the answer and the event, and the ledger before and after
 abbrev pub answerAt : Heap → {rs : List Request} → Place rs → Answer
-answerAt h p = step (after h (p .before)) (p .request) .answer
+answerAt h p = step (after h (p .before)) (p .here) .answer
 
 abbrev pub eventAt : Heap → {rs : List Request} → Place rs → Event
-eventAt h p = eventOn (after h (p .before)) (p .request)
+eventAt h p = eventOn (after h (p .before)) (p .here)
 
 abbrev pub ledgerBefore : Heap → {rs : List Request} → Place rs → Ledger
 ledgerBefore h p = ledger h (p .before)
@@ -55,11 +84,15 @@ ledgerBefore h p = ledger h (p .before)
 abbrev pub ledgerAfter : Heap → {rs : List Request} → Place rs → Ledger
 ledgerAfter h p = feed (eventAt h p) (ledgerBefore h p)
 
-abbrev pub heapBefore : ℕ → Heap → {rs : List Request} → Place rs → Heap
-heapBefore P h p = onPages P (after h (p .before))
+-- at a stage: the ledger before, and the heap of P pages before and after
+abbrev pub ledgerAt : {ss : List Stage} → Place ss → Ledger
+ledgerAt p = feedAll (eventsOf (p .before)) empty
 
-abbrev pub heapAfter : ℕ → Heap → {rs : List Request} → Place rs → Heap
-heapAfter P h p = onPages P (step (after h (p .before)) (p .request) .heap)
+abbrev pub heapBefore : ℕ → Heap → {ss : List Stage} → Place ss → Heap
+heapBefore P h p = onPages P (endOf h (p .before))
+
+abbrev pub heapAfter : ℕ → {ss : List Stage} → Place ss → Heap
+heapAfter P p = onPages P (p .here .heap)
 
 -- "After the list the same stacks are open as in the ledger and every slot and global equals the ledger's; each reachable record has its
 -- allocated bit set, its words from its address on equal the ledger's, and no two such records share a word."
@@ -113,27 +146,25 @@ Answered MarkStep a L = Unit {0}
 Answered Finish a L = Unit {0}
 Answered SweepStep a L = Unit {0}
 
--- "A sweep step that turns off the allocated bit at an address frees the record last born there.": how often, once or not at all, the call with
+-- "A sweep step that turns off the allocated bit at an address frees the record last born there.": how often, once or not at all, the stage with
 -- event e frees the record x, from heap h to heap h′ and with L the ledger before it
 unfoldable pub frees : ℕ → Ledger → Heap → Event → Heap → ℕ
 frees x L h e h′ =
     cond (eqb (lastBorn L (L .address x)) x) (turnedOff (effect e) (is allocated h (wordOf (L .address x))) (is allocated h′ (wordOf (L .address x)))) 0
 
--- .. how many calls of a list do, on buffers of P pages
-unfoldable pub freesIn : ℕ → ℕ → Ledger → Heap → List Request → ℕ
+-- .. how many stages do, from h on, on buffers of P pages
+unfoldable pub freesIn : ℕ → ℕ → Ledger → Heap → List Stage → ℕ
 freesIn P x L h [] = 0
-freesIn P x L h (r ∷ rs) =
-    frees x L (onPages P h) (eventOn h r) (onPages P (step h r .heap)) + freesIn P x (feed (eventOn h r) L) (step h r .heap) rs
+freesIn P x L h (s ∷ ss) = frees x L (onPages P h) (s .event) (onPages P (s .heap)) + freesIn P x (feed (s .event) L) (s .heap) ss
 
--- .. and how many have since the last accepted setup, where n had before the list
-unfoldable pub freedSince : ℕ → ℕ → ℕ → Ledger → Heap → List Request → ℕ
+-- .. and how many have since the last accepted setup, where n had before them
+unfoldable pub freedSince : ℕ → ℕ → ℕ → Ledger → Heap → List Stage → ℕ
 freedSince P x n L h [] = n
-freedSince P x n L h (r ∷ rs) =
-    freedSince P x (cond (lasting (effect (eventOn h r))) (n + frees x L (onPages P h) (eventOn h r) (onPages P (step h r .heap))) 0) (feed (eventOn h r) L)
-    (step h r .heap) rs
+freedSince P x n L h (s ∷ ss) =
+    freedSince P x (cond (lasting (effect (s .event))) (n + frees x L (onPages P h) (s .event) (onPages P (s .heap))) 0) (feed (s .event) L) (s .heap) ss
 
-abbrev pub freed : ℕ → ℕ → Heap → List Request → ℕ
-freed P x h rs = freedSince P x 0 empty h rs
+abbrev pub freed : ℕ → ℕ → Heap → List Stage → ℕ
+freed P x h ss = freedSince P x 0 empty h ss
 
 -- "A cycle runs from an accepted start to the next accepted sweep step that answers 0, 0, 0; a setup accepted before that breaks it off.":
 -- a cycle that ends within the list rs, made on buffers h
@@ -154,11 +185,13 @@ pub record Demand (P : ℕ) (h : Heap) (rs : List Request) : Type 0 where
   pub matches : Matches (onPages P (after h rs)) (ledger h rs)
   pub pages : Pages P (after h rs .table)
   -- at each of its calls
-  pub answers : (p : Place rs) → T (accepted (answerAt h p)) → Answered (p .request .call) (answerAt h p) (ledgerAfter h p)
-  -- a sweep step that turns off the allocated bit of word w: a record was born there, and the last of them was not freed before
-  pub sweeps : (p : Place rs) → p .request .call ≡ SweepStep → (w : ℕ) → T (is allocated (heapBefore P h p) w) → T (not (is allocated (heapAfter P h p) w)) →
-      let x = lastBorn (ledgerBefore h p) (addressOf w) in (0 < x) × (x ≤ ledgerBefore h p .count) × (freed P x h (p .before) ≡ 0)
+  pub answers : (p : Place rs) → T (accepted (answerAt h p)) → Answered (p .here .call) (answerAt h p) (ledgerAfter h p)
+  -- a sweep, a sweep step or one inside a call, that turns off the allocated bit of word w: a record was born there, and the last of them was not freed
+  -- before
+  pub sweeps : (p : Place (stages h rs)) → T (isSweep (effect (p .here .event))) → (w : ℕ) → T (is allocated (heapBefore P h p) w) → T (not (is allocated (heapAfter P p) w)) →
+      let x = lastBorn (ledgerAt p) (addressOf w) in (0 < x) × (x ≤ ledgerAt p .count) × (freed P x h (p .before) ≡ 0)
   -- "In a cycle that ends within the list, each record born before the start, not freed and not reachable by then, is freed by exactly one of its
-  -- sweep steps."
-  pub cycles : (C : Cycle h rs) (x : ℕ) → let L = ledger h (C .before) in 0 < x → x ≤ L .count → freed P x h (C .before) ≡ 0 → ¬ (Reachable L x) →
-      freesIn P x L (step (after h (C .before)) (C .first) .heap) (C .between ++ (C .last ∷ [])) ≡ 1
+  -- sweep steps.", the sweeps inside its calls among them
+  pub cycles : (C : Cycle h rs) (x : ℕ) → let L = ledger h (C .before) in let h₁ = step (after h (C .before)) (C .first) .heap in
+      0 < x → x ≤ L .count → freed P x h (stages h (C .before)) ≡ 0 → ¬ (Reachable L x) →
+      freesIn P x L h₁ (stages h₁ (C .between ++ (C .last ∷ []))) ≡ 1

@@ -7,13 +7,14 @@ use Prim.Native.Nat.{ℕ, suc, _+_, _≤_, _<_}
 use lib.Dec.{T, eqb}
 use Rattle.marking.specs.Effect.{lasting, inCycle, inMarking, isSweep, turnedOff, work}
 use Rattle.marking.specs.Count.{count}
-use Rattle.marking.specs.Heap.{addressOf, Heap, wordOf}
+use Rattle.model.specs.Memory.{addressOf, wordOf}
+use Rattle.marking.specs.WordHeap.{WordHeap}
 use Rattle.marking.specs.Ledger.{Ledger, Event, effect, Each, feed, feedAll, value, word, Reachable, lastBorn}
 use Rattle.marking.specs.Trace.{Step, Steps, ready, more}
 
 -- "After the list the same stacks are open as in the ledger and every slot and global equals the ledger's; each reachable record has
 -- its allocated bit set, its words from its address on equal the ledger's, and no two such records share a word."
-pub record MatchesLedger (H : Heap) (L : Ledger) : Type 0 where
+pub record MatchesLedger (H : WordHeap) (L : Ledger) : Type 0 where
   pub opened : (t : ℕ) → H .opened t ≡ L .opened t
   pub slots : (t i : ℕ) → H .slots t i ≡ value L (L .slot t i)
   pub globals : (g : ℕ) → H .globals g ≡ value L (L .global g)
@@ -23,67 +24,67 @@ pub record MatchesLedger (H : Heap) (L : Ledger) : Type 0 where
       wordOf (L .address x) + f ≢ wordOf (L .address y) + g
 
 -- what a call's answer is about: the slot that it sets, the word that it gets, or nothing that the ledger knows
-pub data Answer : Type 0 where
-  nothing : Answer
-  slot : (s i : ℕ) → Answer
-  number : (s j f : ℕ) → Answer
+pub data Subject : Type 0 where
+  nothing : Subject
+  slot : (s i : ℕ) → Subject
+  number : (s j f : ℕ) → Subject
 
-abbrev pub answer : Event → Answer
-answer Event.refused = nothing
-answer Event.setup = nothing
-answer Event.audit = nothing
-answer (Event.openStack s) = nothing
-answer (Event.closeStack s) = nothing
-answer (Event.allocate s i p n a) = slot s i
-answer (Event.copy s i j) = slot s i
-answer (Event.clear s i) = slot s i
-answer (Event.load s i j f) = slot s i
-answer (Event.store s j f k) = nothing
-answer (Event.put s j f v) = nothing
-answer (Event.get s j f) = number s j f
-answer (Event.loadGlobal s i g) = slot s i
-answer (Event.storeGlobal s g i) = nothing
-answer Event.start = nothing
-answer (Event.scanStack s) = nothing
-answer Event.scanGlobals = nothing
-answer Event.markStep = nothing
-answer Event.noneGray = nothing
-answer Event.finish = nothing
-answer Event.sweepStep = nothing
-answer Event.endCycle = nothing
+abbrev pub subject : Event → Subject
+subject Event.refused = nothing
+subject Event.setup = nothing
+subject Event.audit = nothing
+subject (Event.openStack s) = nothing
+subject (Event.closeStack s) = nothing
+subject (Event.allocate s i p n a) = slot s i
+subject (Event.copy s i j) = slot s i
+subject (Event.clear s i) = slot s i
+subject (Event.load s i j f) = slot s i
+subject (Event.store s j f k) = nothing
+subject (Event.put s j f v) = nothing
+subject (Event.get s j f) = number s j f
+subject (Event.loadGlobal s i g) = slot s i
+subject (Event.storeGlobal s g i) = nothing
+subject Event.start = nothing
+subject (Event.scanStack s) = nothing
+subject Event.scanGlobals = nothing
+subject Event.markStep = nothing
+subject Event.noneGray = nothing
+subject Event.finish = nothing
+subject Event.sweepStep = nothing
+subject Event.endCycle = nothing
 
 -- the answer, of the heap that the call leaves and of the ledger after it
-abbrev pub given : Answer → Heap → ℕ
+abbrev pub given : Subject → WordHeap → ℕ
 given nothing H = 0
 given (slot s i) H = H .slots s i
 given (number s j f) H = H .arena (wordOf (H .slots s j) + f)
 
-abbrev pub expected : Answer → Ledger → ℕ
+abbrev pub expected : Subject → Ledger → ℕ
 expected nothing L = 0
 expected (slot s i) L = value L (L .slot s i)
 expected (number s j f) L = word L (L .slot s j) f
 
 -- how often a call frees the record x: a sweep step does that turns off the allocated bit at its address, if x is the last born there
-unfoldable pub freedIn : ℕ → Ledger → Heap → Event → Heap → ℕ
+unfoldable pub freedIn : ℕ → Ledger → WordHeap → Event → WordHeap → ℕ
 freedIn x L H e H′ =
     cond (eqb (lastBorn L (L .address x)) x) (turnedOff (effect e) (H .allocated (wordOf (L .address x))) (H′ .allocated (wordOf (L .address x)))) 0
 
 -- .. how often the calls of a list do
-unfoldable pub freedDuring : {H H′ : Heap} {es : List Event} → ℕ → Ledger → Steps H es H′ → ℕ
+unfoldable pub freedDuring : {H H′ : WordHeap} {es : List Event} → ℕ → Ledger → Steps H es H′ → ℕ
 freedDuring x L ready = 0
 freedDuring x L (more {H} {H₁} {H₂} {e} {es} s ss) = freedIn x L H e H₁ + freedDuring x (feed e L) ss
 
 -- .. how often they do and the sweep step that ends a cycle after them, which leaves the heap E
-abbrev pub freedToEnd : {H H′ : Heap} {es : List Event} → ℕ → Ledger → Steps H es H′ → Heap → ℕ
+abbrev pub freedToEnd : {H H′ : WordHeap} {es : List Event} → ℕ → Ledger → Steps H es H′ → WordHeap → ℕ
 freedToEnd {H} {H′} {es} x L ss E = freedDuring x L ss + freedIn x (feedAll es L) H′ Event.endCycle E
 
 -- .. and how often they have since the last setup, where it was n before the list
-unfoldable pub freedSince : {H H′ : Heap} {es : List Event} → ℕ → ℕ → Ledger → Steps H es H′ → ℕ
+unfoldable pub freedSince : {H H′ : WordHeap} {es : List Event} → ℕ → ℕ → Ledger → Steps H es H′ → ℕ
 freedSince x n L ready = n
 freedSince x n L (more {H} {H₁} {H₂} {e} {es} s ss) = freedSince x (cond (lasting (effect e)) (n + freedIn x L H e H₁) 0) (feed e L) ss
 
 -- a record is allocated: the allocated bit at its address is on, and it is the last born there
-abbrev pub isAllocated : Ledger → Heap → ℕ → Bool
+abbrev pub isAllocated : Ledger → WordHeap → ℕ → Bool
 isAllocated L H x = H .allocated (wordOf (L .address x)) && eqb (lastBorn L (L .address x)) x
 
 -- how many events are mark steps that do work
@@ -93,22 +94,22 @@ workIn (e ∷ es) = work (effect e) + workIn es
 
 -- THE CLAIM, of a heap H that a list of calls has left, where L is the ledger and n x how often the record x was freed since the last setup:
 -- of the heap itself, of each call that may come next, and of each cycle that may start there
-pub record Demand (H : Heap) (L : Ledger) (n : ℕ → ℕ) : Type 0 where
+pub record Correct (H : WordHeap) (L : Ledger) (n : ℕ → ℕ) : Type 0 where
   pub matches : MatchesLedger H L
   -- "Each accepted call that sets a slot answered the ledger's new value of it, and get that of its word."
-  pub answers : {e : Event} {H′ : Heap} → Step H e H′ → given (answer e) H′ ≡ expected (answer e) (feed e L)
+  pub answers : {e : Event} {H′ : WordHeap} → Step H e H′ → given (subject e) H′ ≡ expected (subject e) (feed e L)
   -- "A sweep step that turns off the allocated bit at an address frees the record last born there.": where a bit is on one was
   -- born, and not freed before; a sweep step that turns it off frees that record
   pub frees : (w : ℕ) → T (H .allocated w) →
       (0 < lastBorn L (addressOf w)) × (lastBorn L (addressOf w) ≤ L .count) × (n (lastBorn L (addressOf w)) ≡ 0)
-  pub freed : {e : Event} {H′ : Heap} → Step H e H′ → T (isSweep (effect e)) → (w : ℕ) → T (H .allocated w) → T (not (H′ .allocated w)) →
+  pub freed : {e : Event} {H′ : WordHeap} → Step H e H′ → T (isSweep (effect e)) → (w : ℕ) → T (H .allocated w) → T (not (H′ .allocated w)) →
       freedIn (lastBorn L (addressOf w)) L H e H′ ≡ 1
   -- "In a cycle that ends within the list, each record born before the start, not freed and not reachable by then, is freed by exactly
   -- one of its sweep steps."
-  pub cycles : {H₁ H₂ H₃ : Heap} {es : List Event} → Step H Event.start H₁ → (ss : Steps H₁ es H₂) → Each inCycle es →
+  pub cycles : {H₁ H₂ H₃ : WordHeap} {es : List Event} → Step H Event.start H₁ → (ss : Steps H₁ es H₂) → Each inCycle es →
       Step H₂ Event.endCycle H₃ →
       (x : ℕ) → 0 < x → x ≤ L .count → n x ≡ 0 → ¬ (Reachable L x) → freedToEnd x L ss H₃ ≡ 1
   -- "No cycle has more mark steps that do work than there are records allocated at its finish."
-  pub works : {H₁ H₂ H₃ : Heap} {es : List Event} → Step H Event.start H₁ → (ss : Steps H₁ es H₂) → Each inMarking es →
+  pub works : {H₁ H₂ H₃ : WordHeap} {es : List Event} → Step H Event.start H₁ → (ss : Steps H₁ es H₂) → Each inMarking es →
       Step H₂ Event.finish H₃ →
       workIn es ≤ count (isAllocated (feedAll es L) H₂) (suc (feedAll es L .count))

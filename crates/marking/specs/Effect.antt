@@ -2,7 +2,6 @@
 -- (Calls) each have an effect; all that is said of cycles goes by it.
 use mathlib.Core.Bool.{Bool, true, false, not, _&&_}
 use Prim.Native.Nat.{ℕ}
-use lib.Dec.{T}
 
 -- works: a mark step that takes a gray record. ends: the sweep step that ends a cycle; sweeps: any other
 pub data Effect : Type 0 where
@@ -65,21 +64,3 @@ work works = 1
 work finishes = 0
 work sweeps = 0
 work ends = 0
-
-pub inCycle-lasting : (e : Effect) → T (inCycle e) → T (lasting e)
-inCycle-lasting none t = tt
-inCycle-lasting setsUp t = t
-inCycle-lasting starts t = tt
-inCycle-lasting works t = tt
-inCycle-lasting finishes t = tt
-inCycle-lasting sweeps t = tt
-inCycle-lasting ends t = tt
-
-pub inMarking-lasting : (e : Effect) → T (inMarking e) → T (lasting e)
-inMarking-lasting none t = tt
-inMarking-lasting setsUp t = t
-inMarking-lasting starts t = tt
-inMarking-lasting works t = tt
-inMarking-lasting finishes t = tt
-inMarking-lasting sweeps t = tt
-inMarking-lasting ends t = tt

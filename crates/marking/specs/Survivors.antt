@@ -8,7 +8,8 @@ use mathlib.Core.List.{List, [], _∷_}
 use Prim.Native.Nat.{ℕ, suc, _≤_, _<_}
 use lib.Dec.{T}
 use Rattle.marking.specs.Effect.{inCycle, inMarking}
-use Rattle.marking.specs.Heap.{Heap, wordOf}
+use Rattle.marking.specs.WordHeap.{WordHeap}
+use Rattle.model.specs.Memory.{wordOf}
 use Rattle.marking.specs.Ledger.{Ledger, Event, Each, feed, feedAll}
 use Rattle.marking.specs.Trace.{Step, Steps}
 use Rattle.marking.specs.Claim.{isAllocated, freedToEnd}
@@ -53,16 +54,16 @@ abbrev pub Saved : List Event → Ledger → ℕ → Type 0
 Saved es L x = SavedBy es L (λ y. ⊥) x
 
 -- is the record x marked
-abbrev pub isMarked : Ledger → Heap → ℕ → Bool
+abbrev pub isMarked : Ledger → WordHeap → ℕ → Bool
 isMarked L H x = isAllocated L H x && H .bits .marked (wordOf (L .address x))
 
 -- THE CLAIM of the cycles that may start at a heap H that a list of calls has left, where L is the ledger: at an accepted finish the marked
 -- records are exactly those saved, and if the cycle ends, a record that is allocated at its finish is freed once if it was not saved and
 -- not at all if it was
-pub record Exact (H : Heap) (L : Ledger) : Type 0 where
-  pub marked : {H₁ H₂ H₃ : Heap} {es : List Event} → Step H Event.start H₁ → Steps H₁ es H₂ → Each inMarking es → Step H₂ Event.finish H₃ →
+pub record Exact (H : WordHeap) (L : Ledger) : Type 0 where
+  pub marked : {H₁ H₂ H₃ : WordHeap} {es : List Event} → Step H Event.start H₁ → Steps H₁ es H₂ → Each inMarking es → Step H₂ Event.finish H₃ →
       (x : ℕ) → 0 < x → x ≤ feedAll es L .count → (T (isMarked (feedAll es L) H₂ x) → Saved es L x) × (Saved es L x → T (isMarked (feedAll es L) H₂ x))
-  pub freed : {H₁ H₂ H₃ H₄ H₅ : Heap} {es fs : List Event} → Step H Event.start H₁ → Steps H₁ es H₂ → Each inMarking es →
+  pub freed : {H₁ H₂ H₃ H₄ H₅ : WordHeap} {es fs : List Event} → Step H Event.start H₁ → Steps H₁ es H₂ → Each inMarking es →
       Step H₂ Event.finish H₃ →
       (ss : Steps H₃ fs H₄) → Each inCycle fs → Step H₄ Event.endCycle H₅ →
       (x : ℕ) → 0 < x → x ≤ feedAll es L .count → T (isAllocated (feedAll es L) H₂ x) →

@@ -5,13 +5,12 @@ use mathlib.Core.Logic.{_⊎_}
 use mathlib.Core.List.{List, [], _∷_}
 use Prim.Native.Nat.{ℕ, _+_, _≤_, _<_}
 use lib.Dec.{T, ltb}
-use Rattle.marking.specs.Graph.{slotCount, globalCount}
-use Rattle.marking.specs.Calls.{off, mark, sweep}
-use Rattle.marking.specs.Heap.{addressOf, wordOf, Elements, Heap, Audited, Alike, heapAssign, heapStore, heapStoreGlobal, heapPut, heapResetStack, heapStart, heapScanStack, heapScanGlobals, heapMarkStep, heapFinish, heapSweep, heapEndCycle, heapAllocate}
+use Rattle.model.specs.Memory.{slotCount, globalCount, addressOf, wordOf}
+use Rattle.marking.specs.WordHeap.{off, mark, sweep, Elements, WordHeap, LegalColours, Alike, heapAssign, heapStore, heapStoreGlobal, heapPut, heapResetStack, heapStart, heapScanStack, heapScanGlobals, heapMarkStep, heapFinish, heapSweep, heapEndCycle, heapAllocate}
 use Rattle.marking.specs.Ledger.{Event}
 
 -- a heap after a setup
-pub record Fresh (H : Heap) : Type 0 where
+pub record Fresh (H : WordHeap) : Type 0 where
   pub allocated : (w : ℕ) → H .allocated w ≡ false
   pub slots : (t i : ℕ) → H .slots t i ≡ 0
   pub globals : (g : ℕ) → H .globals g ≡ 0
@@ -22,50 +21,50 @@ pub record Fresh (H : Heap) : Type 0 where
 -- allocate: a record of p pointer words and n words in all at word w, clear of every allocated element and in a swept span; its words are 0
 -- then, and no other word, element or flag of an allocated one changes. rescanStack, rescanGlobals: a scan of what is scanned already.
 -- noneGray: a mark step that finds none gray. sweepStep: the words q lie in an unswept span, and what is left of it is still as it was.
-pub data Step (H : Heap) : Event → Heap → Type 0 where
+pub data Step (H : WordHeap) : Event → WordHeap → Type 0 where
   refused : Step H Event.refused H
   audit : Step H Event.audit H
-  setup : (H′ : Heap) → Fresh H′ → Step H Event.setup H′
-  openStack : (s : ℕ) → Audited H → Step H (Event.openStack s) (heapResetStack s true H)
-  closeStack : (s : ℕ) → Audited H → Step H (Event.closeStack s) (heapResetStack s false H)
-  copy : (s i j : ℕ) → Audited H → T (H .opened s) → i < slotCount → Step H (Event.copy s i j) (heapAssign s i (H .slots s j) H)
-  clear : (s i : ℕ) → Audited H → T (H .opened s) → i < slotCount → Step H (Event.clear s i) (heapAssign s i 0 H)
-  load : (s i j f : ℕ) → Audited H → T (H .opened s) → i < slotCount → 0 < H .slots s j →
+  setup : (H′ : WordHeap) → Fresh H′ → Step H Event.setup H′
+  openStack : (s : ℕ) → LegalColours H → Step H (Event.openStack s) (heapResetStack s true H)
+  closeStack : (s : ℕ) → LegalColours H → Step H (Event.closeStack s) (heapResetStack s false H)
+  copy : (s i j : ℕ) → LegalColours H → T (H .opened s) → i < slotCount → Step H (Event.copy s i j) (heapAssign s i (H .slots s j) H)
+  clear : (s i : ℕ) → LegalColours H → T (H .opened s) → i < slotCount → Step H (Event.clear s i) (heapAssign s i 0 H)
+  load : (s i j f : ℕ) → LegalColours H → T (H .opened s) → i < slotCount → 0 < H .slots s j →
       f < H .elements .pointers (wordOf (H .slots s j)) →
       Step H (Event.load s i j f) (heapAssign s i (H .arena (wordOf (H .slots s j) + f)) H)
-  loadGlobal : (s i g : ℕ) → Audited H → T (H .opened s) → i < slotCount → Step H (Event.loadGlobal s i g) (heapAssign s i (H .globals g) H)
-  store : (s j f k : ℕ) → Audited H → 0 < H .slots s j → f < H .elements .pointers (wordOf (H .slots s j)) →
+  loadGlobal : (s i g : ℕ) → LegalColours H → T (H .opened s) → i < slotCount → Step H (Event.loadGlobal s i g) (heapAssign s i (H .globals g) H)
+  store : (s j f k : ℕ) → LegalColours H → 0 < H .slots s j → f < H .elements .pointers (wordOf (H .slots s j)) →
       Step H (Event.store s j f k) (heapStore (wordOf (H .slots s j) + f) (H .slots s k) H)
-  put : (s j f v : ℕ) → Audited H → 0 < H .slots s j → H .elements .pointers (wordOf (H .slots s j)) ≤ f →
+  put : (s j f v : ℕ) → LegalColours H → 0 < H .slots s j → H .elements .pointers (wordOf (H .slots s j)) ≤ f →
       f < H .elements .words (wordOf (H .slots s j)) →
       Step H (Event.put s j f v) (heapPut (wordOf (H .slots s j) + f) v H)
   get : (s j f : ℕ) → 0 < H .slots s j → H .elements .pointers (wordOf (H .slots s j)) ≤ f →
       f < H .elements .words (wordOf (H .slots s j)) →
       Step H (Event.get s j f) H
-  storeGlobal : (s g i : ℕ) → Audited H → g < globalCount → Step H (Event.storeGlobal s g i) (heapStoreGlobal g (H .slots s i) H)
-  allocate : (s i p n w : ℕ) (arena : ℕ → ℕ) (E : Elements) (unswept : ℕ → Bool) → Audited H → T (H .opened s) → i < slotCount →
+  storeGlobal : (s g i : ℕ) → LegalColours H → g < globalCount → Step H (Event.storeGlobal s g i) (heapStoreGlobal g (H .slots s i) H)
+  allocate : (s i p n w : ℕ) (arena : ℕ → ℕ) (E : Elements) (unswept : ℕ → Bool) → LegalColours H → T (H .opened s) → i < slotCount →
       ((v : ℕ) → T (H .allocated v) → (v + H .elements .words v ≤ w) ⊎ (w + n ≤ v)) → (p ≤ n) × (0 < n) →
       ((k : ℕ) → k < n → arena (w + k) ≡ 0) → ((v : ℕ) → ((v < w) ⊎ (w + n ≤ v)) → arena v ≡ H .arena v) →
       (E .scan w ≡ ltb 0 p) × (E .pointers w ≡ p) × (E .words w ≡ n) → ((v : ℕ) → T (H .allocated v) → Alike E (H .elements) v) →
       unswept w ≡ false → ((v : ℕ) → T (H .allocated v) → unswept v ≡ H .unswept v) →
       Step H (Event.allocate s i p n (addressOf w)) (heapAllocate s i w arena E unswept H)
-  start : Audited H → H .phase ≡ off → Step H Event.start (heapStart H)
-  scanStack : (s : ℕ) → Audited H → H .phase ≡ mark → Step H (Event.scanStack s) (heapScanStack s H)
+  start : LegalColours H → H .phase ≡ off → Step H Event.start (heapStart H)
+  scanStack : (s : ℕ) → LegalColours H → H .phase ≡ mark → Step H (Event.scanStack s) (heapScanStack s H)
   rescanStack : (s : ℕ) → H .phase ≡ mark → T (not (H .bits .grayStack s)) → Step H (Event.scanStack s) H
-  scanGlobals : Audited H → H .phase ≡ mark → Step H Event.scanGlobals (heapScanGlobals globalCount H)
+  scanGlobals : LegalColours H → H .phase ≡ mark → Step H Event.scanGlobals (heapScanGlobals globalCount H)
   rescanGlobals : H .phase ≡ mark → T (not (H .bits .grayGlobals)) → Step H Event.scanGlobals H
-  markStep : (w : ℕ) → Audited H → H .phase ≡ mark → T (H .bits .gray w) →
+  markStep : (w : ℕ) → LegalColours H → H .phase ≡ mark → T (H .bits .gray w) →
       Step H Event.markStep (heapMarkStep w (H .elements .pointers w) H)
   noneGray : Step H Event.noneGray H
-  finish : (unswept : ℕ → Bool) → Audited H → H .phase ≡ mark → ((w : ℕ) → T (not (H .bits .gray w))) → T (not (H .bits .grayGlobals)) →
+  finish : (unswept : ℕ → Bool) → LegalColours H → H .phase ≡ mark → ((w : ℕ) → T (not (H .bits .gray w))) → T (not (H .bits .grayGlobals)) →
       ((t : ℕ) → T (not (H .bits .grayStack t))) →
       ((w : ℕ) → T (H .allocated w) → unswept w ≡ true) → Step H Event.finish (heapFinish unswept H)
-  sweepStep : (q : ℕ → Bool) (E : Elements) → Audited H → H .phase ≡ sweep →
+  sweepStep : (q : ℕ → Bool) (E : Elements) → LegalColours H → H .phase ≡ sweep →
       ((w : ℕ) → T (H .allocated w) → T (q w) → H .unswept w ≡ true) →
       ((w : ℕ) → T (cond (q w) (H .bits .marked w) (H .allocated w)) → Alike E (H .elements) w) → Step H Event.sweepStep (heapSweep q E H)
-  endCycle : Audited H → H .phase ≡ sweep → ((w : ℕ) → T (H .allocated w) → H .unswept w ≡ false) → Step H Event.endCycle (heapEndCycle H)
+  endCycle : LegalColours H → H .phase ≡ sweep → ((w : ℕ) → T (H .allocated w) → H .unswept w ≡ false) → Step H Event.endCycle (heapEndCycle H)
 
 -- the calls of a list, one after the other
-pub data Steps : Heap → List Event → Heap → Type 0 where
-  ready : {H : Heap} → Steps H [] H
-  more : {H H₁ H₂ : Heap} {e : Event} {es : List Event} → Step H e H₁ → Steps H₁ es H₂ → Steps H (e ∷ es) H₂
+pub data Steps : WordHeap → List Event → WordHeap → Type 0 where
+  ready : {H : WordHeap} → Steps H [] H
+  more : {H H₁ H₂ : WordHeap} {e : Event} {es : List Event} → Step H e H₁ → Steps H₁ es H₂ → Steps H (e ∷ es) H₂

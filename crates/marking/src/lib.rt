@@ -1,1 +1,1 @@
-// The theory of marking: theorems about a collected heap (specs/), and no function.
+// The theory of marking: what is claimed of a collected heap (specs/) and its proofs (proofs/), and no function.

@@ -3,7 +3,7 @@ use Prim.Native.Nat.{ℕ, _+_, _-_}
 use mathlib.Core.Bool.{Bool, _&&_, _||_, not}
 use mathlib.Core.List.{List}
 use Rattle.model.specs.Bounded.{_==_, _<?_, _≤?_, if_then_else_, _implies_, allBelow, someBelow}
-use Rattle.model.specs.Memory.{Heap, words, stacks, slots, slot, state, globalsState, phase, root, closed, openState, grayState, off, mark, sweep, nil, addressOf, wordOf, recordOf, word, firstState}
+use Rattle.model.specs.Memory.{Heap, words, stackCount, slotCount, slot, state, globalsState, phase, root, closed, openState, grayState, off, mark, sweep, nil, addressOf, wordOf, recordOf, word, firstState}
 use Rattle.model.specs.Classes.{classPages, fewestLarge, mostLarge, kinds}
 use Rattle.model.specs.Bitmaps.{is, allocated, marked, gray}
 use Rattle.model.specs.Spans.{owner, pageCount, kindEntry, isFree, startsSpan, unsweptFlag, isUnswept, kindAt, classAt, isScan, elements, elementStart, spanOf, elementOf, inElement, startsElement, isPointer, kept}
@@ -74,7 +74,7 @@ goodWord h w = goodAllocated h w && goodMarked h w && goodGray h w && goodPointe
 unfoldable pub goodStack : Heap → ℕ → Bool
 goodStack h s =
     state h s ≤? grayState && (state h s == grayState implies phase h == mark)
-    && (state h s == closed implies allBelow slots (λ i. slot h s i == nil))
+    && (state h s == closed implies allBelow slotCount (λ i. slot h s i == nil))
 
 unfoldable pub goodStates : Heap → Bool
 goodStates h =
@@ -88,5 +88,5 @@ goodRoot h i = isReference h (root h i)
 -- "Yes exactly if" all of it: the phase and the globals' state, every stack, page, word, slot and global
 unfoldable pub audit : Heap → Bool
 audit h =
-    goodStates h && allBelow stacks (goodStack h) && allBelow (h .pages) (goodPage h)
+    goodStates h && allBelow stackCount (goodStack h) && allBelow (h .pages) (goodPage h)
     && allBelow (words h) (goodWord h) && allBelow firstState (goodRoot h)

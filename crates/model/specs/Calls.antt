@@ -63,6 +63,15 @@ pub record Request : Type 0 where
 abbrev pub step : Heap → Request → Outcome
 step h r = run (lent (r .pages) (h .arena) (h .table) (h .bits) (h .roots)) (r .call)
 
+-- A call goes by stages: each sweep inside it leaves a heap, and then the call leaves the heap at its end. The heaps after the sweeps inside a call,
+-- in order: none, since no call sweeps inside but a sweep step, which is a call of its own.
+unfoldable pub sweepsIn : Heap → Call → List Heap
+sweepsIn h c = []
+
+-- .. of a call as it is made
+abbrev pub sweepsOf : Heap → Request → List Heap
+sweepsOf h r = sweepsIn (lent (r .pages) (h .arena) (h .table) (h .bits) (h .roots)) (r .call)
+
 -- a list of calls, each on the buffers as the last one left them: the answers
 unfoldable pub answers : Heap → List Request → List Answer
 answers h [] = []

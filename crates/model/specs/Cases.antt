@@ -4,7 +4,7 @@ use mathlib.Core.Path.{_≡_, refl}
 use mathlib.Core.List.{List, [], _∷_, map}
 use Rattle.model.specs.Bounded.{allBelow, firstFrom, firstBelow, _implies_}
 use lib.ListN.{length}
-use Rattle.model.specs.Memory.{pageBytes, pageWords, wordBytes, bitmapWords, wordBits, stacks, slots, globals, firstGlobal, firstState, globalsStateAt, phaseAt, rootWords}
+use Rattle.model.specs.Memory.{pageBytes, pageWords, wordBytes, bitmapWords, wordBits, stackCount, slotCount, globalCount, firstGlobal, firstState, globalsStateAt, phaseAt, rootWords}
 use Rattle.model.specs.Classes.{rows, kinds, maxSmall, maxSize, fewestLarge, mostLarge, classRows, elementBytes, spanBytes, classPages, classOf, kindOf, pagesFor}
 use Rattle.model.specs.Spans.{owner}
 use Rattle.model.specs.Allocate.{runLength, isRun, isShortest, bestRun}
@@ -31,9 +31,9 @@ cases = record { classes = refl; large = refl; kinds = refl; runs = refl }
 pub record Agree : Type 0 where
   pub page : pageBytes ≡ pageWords * wordBytes
   pub bits : bitmapWords * wordBits ≡ 4 * pageWords
-  pub slotsEnd : firstGlobal ≡ stacks * slots
-  pub globalsEnd : firstState ≡ firstGlobal + globals
-  pub statesEnd : globalsStateAt ≡ firstState + stacks
+  pub slotsEnd : firstGlobal ≡ stackCount * slotCount
+  pub globalsEnd : firstState ≡ firstGlobal + globalCount
+  pub statesEnd : globalsStateAt ≡ firstState + stackCount
   pub beforePhase : phaseAt ≡ globalsStateAt + 1
   pub roots : rootWords ≡ phaseAt + 1
   pub table : rows ≡ length classRows

@@ -2,7 +2,7 @@
 use Prim.Native.Nat.{ℕ, _/_}
 use mathlib.Core.Bool.{_||_, not}
 use Rattle.model.specs.Bounded.{_==_, _<?_, _≤?_}
-use Rattle.model.specs.Memory.{Heap, goodBuffers, stacks, slots, globals, state, phase, slot, closed, nil, recordOf, wordBytes}
+use Rattle.model.specs.Memory.{Heap, goodBuffers, stackCount, slotCount, globalCount, state, phase, slot, closed, nil, recordOf, wordBytes}
 use Rattle.model.specs.Answers.{_given_, _orElse_, badBuffers, wrongPhase, badStack, badSlot, badSize, nilSlot, badField}
 use Rattle.model.specs.Classes.{maxSize}
 use Rattle.model.specs.Spans.{elementWords, spanOf, pointerCount}
@@ -17,18 +17,18 @@ phaseRefusal h ph = wrongPhase given not (phase h == ph)
 
 -- 3: "number above 15; not open; for opening, already open": the stack has to be open
 abbrev pub openRefusal : Heap → ℕ → ℕ
-openRefusal h s = badStack given (stacks ≤? s || state h s == closed)
+openRefusal h s = badStack given (stackCount ≤? s || state h s == closed)
 
 -- for opening: the stack has to be closed
 abbrev pub closedRefusal : Heap → ℕ → ℕ
-closedRefusal h s = badStack given (stacks ≤? s || not (state h s == closed))
+closedRefusal h s = badStack given (stackCount ≤? s || not (state h s == closed))
 
 -- 4: "a slot or global above 31"
 abbrev pub slotNumberRefusal : ℕ → ℕ
-slotNumberRefusal i = badSlot given slots ≤? i
+slotNumberRefusal i = badSlot given slotCount ≤? i
 
 abbrev pub globalNumberRefusal : ℕ → ℕ
-globalNumberRefusal g = badSlot given globals ≤? g
+globalNumberRefusal g = badSlot given globalCount ≤? g
 
 -- 5: "size 0 or above 1,048,576, or p above size/8 rounded down"
 abbrev pub sizeRefusal : ℕ → ℕ → ℕ

@@ -3,7 +3,7 @@ use Prim.Native.Nat.{ℕ, _+_, _*_}
 use mathlib.Core.Bool.{Bool, false, _&&_, _||_, not, cond}
 use mathlib.Core.List.{List}
 use Rattle.model.specs.Bounded.{_==_, _<?_, if_then_else_, allBelow, firstBelow, someBelow, countBelow}
-use Rattle.model.specs.Memory.{Heap, lent, choose, withTable, withBits, words, pageWords, stacks, slots, globals, slot, global, state, root, globalsState, firstState, stateAt, globalsStateAt, phaseAt, closed, openState, grayState, off, mark, sweep, setRoot, putWords, withRoots, word, addressOf, firstWord}
+use Rattle.model.specs.Memory.{Heap, lent, choose, withTable, withBits, words, pageWords, stackCount, slotCount, globalCount, slot, global, state, root, globalsState, firstState, stateAt, globalsStateAt, phaseAt, closed, openState, grayState, off, mark, sweep, setRoot, putWords, withRoots, word, addressOf, firstWord}
 use Rattle.model.specs.Answers.{Outcome, outcome, _orElse_, _given_, unfinished}
 use Rattle.model.specs.Bitmaps.{is, allocated, marked, gray, pointer, putBit, putBits}
 use Rattle.model.specs.Spans.{owner, pageCount, kindEntry, kindAt, startsSpan, isUnswept, unsweptFlag, elements, elementStart, elementNumber, isPointer, pointerCount, Entry, freePage, putPage, putPages, spanPage}
@@ -14,7 +14,7 @@ use Rattle.model.specs.declared.Answer.the-variants.{Done, Value, Swept}
 -- "Start (phase off): phase 1, every open stack and the globals become gray."
 unfoldable pub start : Heap → Outcome
 start h =
-    let grayed = putWords firstState stacks (λ i. if root h i == closed then closed else grayState) (h .roots) in
+    let grayed = putWords firstState stackCount (λ i. if root h i == closed then closed else grayState) (h .roots) in
     outcome (phaseRefusal h off) h Done (setRoot phaseAt mark (setRoot globalsStateAt grayState (withRoots grayed h)))
 
 -- the n values shaded, the state at word `at` of the roots 1
@@ -29,10 +29,10 @@ scanOutcome refusal n value at h =
 
 -- "Scan a stack, scan the globals (phase mark): shade every slot, state becomes 1."
 unfoldable pub scanStack : Heap → ℕ → Outcome
-scanStack h s = scanOutcome (phaseRefusal h mark orElse openRefusal h s) slots (slot h s) (stateAt s) h
+scanStack h s = scanOutcome (phaseRefusal h mark orElse openRefusal h s) slotCount (slot h s) (stateAt s) h
 
 unfoldable pub scanGlobals : Heap → Outcome
-scanGlobals h = scanOutcome (phaseRefusal h mark) globals (global h) globalsStateAt h
+scanGlobals h = scanOutcome (phaseRefusal h mark) globalCount (global h) globalsStateAt h
 
 -- "the gray record with the lowest address", or the number of words
 unfoldable pub firstGray : Heap → ℕ
@@ -54,7 +54,7 @@ markStep h =
 unfoldable pub finishRefusal : Heap → ℕ
 finishRefusal h =
     phaseRefusal h mark
-    orElse unfinished given (someBelow stacks (λ s. state h s == grayState) || globalsState h == grayState || firstGray h <? words h)
+    orElse unfinished given (someBelow stackCount (λ s. state h s == grayState) || globalsState h == grayState || firstGray h <? words h)
 
 -- page g's entry, unswept if it starts a span
 abbrev pub unsweptPage : List ℕ → ℕ → Entry

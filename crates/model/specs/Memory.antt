@@ -84,18 +84,18 @@ abbrev pub putWords : ℕ → ℕ → (ℕ → ℕ) → List ℕ → List ℕ
 putWords from n value l = writeRun (λ i v l. set l i v) from n value l
 
 -- "Slot i of stack s is word 32s+i (16 stacks of 32 slots)"
-abbrev pub stacks : ℕ
-stacks = 16
+abbrev pub stackCount : ℕ
+stackCount = 16
 
-abbrev pub slots : ℕ
-slots = 32
+abbrev pub slotCount : ℕ
+slotCount = 32
 
 abbrev pub slotAt : ℕ → ℕ → ℕ
-slotAt s i = slots * s + i
+slotAt s i = slotCount * s + i
 
 -- "global g is 512+g (32 of them)"
-abbrev pub globals : ℕ
-globals = 32
+abbrev pub globalCount : ℕ
+globalCount = 32
 
 abbrev pub firstGlobal : ℕ
 firstGlobal = 512

@@ -1,7 +1,7 @@
 -- Setup, and the other calls on records, stacks and globals. All but setup are taken after the audit (Calls.run).
 use Prim.Native.Nat.{ℕ, _+_, _*_}
 use lib.ListN.{set, replicate}
-use Rattle.model.specs.Memory.{Heap, lent, withArena, withBits, withRoots, entryNumbers, bitmapWords, rootWords, slots, slotAt, globalAt, stateAt, globalsStateAt, slot, global, word, putWords, setRoot, nil, openState, closed}
+use Rattle.model.specs.Memory.{Heap, lent, withArena, withBits, withRoots, entryNumbers, bitmapWords, rootWords, slotCount, slotAt, globalAt, stateAt, globalsStateAt, slot, global, word, putWords, setRoot, nil, openState, closed}
 use Rattle.model.specs.Answers.{Outcome, outcome}
 use Rattle.model.specs.Checks.{buffersRefusal, openRefusal, closedRefusal, slotRefusal, slotsRefusal, globalRefusal, pointerRefusal, numberRefusal, recordAt}
 use Rattle.model.specs.Shading.{barrier}
@@ -18,7 +18,7 @@ setup h = outcome (buffersRefusal h) h Done (fresh h)
 
 -- "slots nil", and the stack's state
 unfoldable pub emptied : Heap → ℕ → ℕ → Heap
-emptied h s state = withRoots (set (putWords (slotAt s 0) slots (λ i. nil) (h .roots)) (stateAt s) state) h
+emptied h s state = withRoots (set (putWords (slotAt s 0) slotCount (λ i. nil) (h .roots)) (stateAt s) state) h
 
 -- "open a stack (all slots nil, state 1 in every phase)"
 unfoldable pub openStack : Heap → ℕ → Outcome

@@ -5,7 +5,7 @@
 ghost use mathlib.Core.Path.{_≡_};
 ghost use Prim.Native.Nat.{_<_};
 ghost use lib.ListN.{length};
-ghost use Rattle.model.specs.Memory.{rootWords, stacks, slots, slotAt};
+ghost use Rattle.model.specs.Memory.{rootWords, stackCount, slotCount, slotAt};
 ghost use Rattle.model.specs.Checks.{openRefusal, closedRefusal, slotRefusal, slotsRefusal, globalRefusal};
 ghost use Rattle.root_checks.specs.OnRoots.{Tests};
 
@@ -18,7 +18,7 @@ const GLOBALS: u64 = units::GLOBALS as u64;
 
 // Where slot i of stack s stands.
 pub fn slot_at(s: u64, i: u64) -> usize
-    requires { ⌜ (s < stacks) × (i < slots) ⌝ }
+    requires { ⌜ (s < stackCount) × (i < slotCount) ⌝ }
     ensures { λ r. ⌜ r ≡ slotAt s i ⌝ }
 {
     units::SLOTS * s as usize + i as usize

@@ -5,7 +5,7 @@ ghost use mathlib.Core.Path.{_≡_};
 ghost use mathlib.Core.Bool.{cond};
 ghost use lib.Dec.{eqb};
 ghost use lib.ListN.{length, getD};
-ghost use Rattle.model.specs.Memory.{rootWords, putWords, firstState, stacks, closed, grayState, mark};
+ghost use Rattle.model.specs.Memory.{rootWords, putWords, firstState, stackCount, closed, grayState, mark};
 ghost use Rattle.model.specs.Answers.{_orElse_};
 ghost use Rattle.model.specs.Checks.{phaseRefusal, openRefusal};
 ghost use Rattle.model.specs.Cycle.{start, scanStack, scanGlobals};
@@ -26,7 +26,7 @@ fn grayed(state: u64) -> u64
 // Every open stack becomes gray.
 fn gray_stacks(roots: &mut [u64])
     requires { ⌜ length (now roots) ≡ rootWords ⌝ }
-    ensures { λ r. ⌜ now (roots .exit) ≡ putWords firstState stacks (λ i. cond (eqb (getD (now (roots .entry)) i 0) closed) closed grayState) (now (roots .entry)) ⌝ }
+    ensures { λ r. ⌜ now (roots .exit) ≡ putWords firstState stackCount (λ i. cond (eqb (getD (now (roots .entry)) i 0) closed) closed grayState) (now (roots .entry)) ⌝ }
 {
     let mut done = 0;
     while done < units::STACKS {

@@ -5,14 +5,14 @@
 ghost use mathlib.Core.Path.{_≡_};
 ghost use Prim.Native.Nat.{_<_};
 ghost use lib.ListN.{length};
-ghost use Rattle.model.specs.Memory.{rootWords, stacks};
+ghost use Rattle.model.specs.Memory.{rootWords, stackCount};
 ghost use Rattle.model.specs.Records.{emptied, openStack, closeStack, copy, clear, loadGlobal};
 ghost use Rattle.root_checks.specs.OnRoots.{Leaves, Does};
 use model::Answer;
 
 // All slots of stack s become nil, and its state is set.
 fn empty(roots: &mut [u64], s: usize, state: u64)
-    requires { ⌜ (s < stacks) × (length (now roots) ≡ rootWords) ⌝ }
+    requires { ⌜ (s < stackCount) × (length (now roots) ≡ rootWords) ⌝ }
     ensures { λ r. ⌜ Leaves (λ h. emptied h s state) (now (roots .entry)) (now (roots .exit)) ⌝ }
 {
     words::zero_part(roots, units::SLOTS * s, units::SLOTS);

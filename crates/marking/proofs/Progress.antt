@@ -9,14 +9,18 @@ use Prim.Native.Nat.{ℕ, zero, suc, _+_, _≤_, _<_}
 use native.Mathlib.Omega.{arith}
 use lib.ListN.{length}
 use lib.Dec.{T, eqb, eqb→eq}
-use Rattle.marking.specs.Updates.{update, update-same, update-other, update-case, test, differ, of-true, and-both, and-left}
+use Rattle.marking.specs.Updates.{update}
+use Rattle.marking.proofs.Updates.{update-same, update-other, update-case, test, differ, of-true, and-both, and-left}
 use Rattle.marking.specs.Effect.{asNumber}
-use Rattle.marking.specs.Graph.{slotCount, Graph}
-use Rattle.marking.specs.Colours.{Colours, Marked, hasPointers, shade, shadeAll, ungray, setGrayStack, shadeAll-grows, shadeAll-grayStack}
-use Rattle.marking.specs.Calls.{State, mark, sweep, marking, Call, finish, endCycle, scanStack, scanGlobals, markStep, sweepStep, Allowed, run, markAt, runs, AllAllowed}
-use Rattle.marking.specs.Safety.{Invariant, run-keeps}
-use Rattle.marking.specs.Count.{total, count, count-le, count-lt, total-lt, total-all, find}
-use Rattle.marking.specs.Work.{black, darkens, marked-black}
+use Rattle.model.specs.Memory.{slotCount}
+use Rattle.marking.proofs.Graph.{Graph}
+use Rattle.marking.proofs.Colours.{Colours, Marked, hasPointers, shade, shadeAll, ungray, setGrayStack, shadeAll-grows, shadeAll-grayStack}
+use Rattle.marking.proofs.Operations.{State, Operation, finish, endCycle, scanStack, scanGlobals, markStep, sweepStep, Allowed, perform, markAt, performAll, AllAllowed}
+use Rattle.marking.specs.WordHeap.{mark, sweep, marking}
+use Rattle.marking.proofs.Safety.{Invariant, perform-keeps}
+use Rattle.marking.specs.Count.{total, count}
+use Rattle.marking.proofs.Count.{count-le, count-lt, total-lt, total-all, find}
+use Rattle.marking.proofs.Work.{black, darkens, marked-black}
 
 -- what marking has still to do, where no stack from n on is gray
 abbrev pub whites : State → ℕ
@@ -79,15 +83,15 @@ module _ (S : State) (I : Invariant S) (p : S .phase ≡ mark) where
   m = rw p tt
 
   -- a scan of a gray stack
-  pub scan-falls : (n t : ℕ) → t < n → T (S .colours .grayStack t) → left n (run (scanStack t) S) < left n S
-  unfolding run setGrayStack
+  pub scan-falls : (n t : ℕ) → t < n → T (S .colours .grayStack t) → left n (perform (scanStack t) S) < left n S
+  unfolding perform setGrayStack
   scan-falls n t h g = omega
-      (arith, stacks, ap asNumber globals, whites-le S (run (scanStack t) S) refl refl (darkens (scanStack t) S tt p I m .black))
+      (arith, stacks, ap asNumber globals, whites-le S (perform (scanStack t) S) refl refl (darkens (scanStack t) S tt p I m .black))
     where
-      globals : (run (scanStack t) S) .colours .gray 0 ≡ S .colours .gray 0
+      globals : (perform (scanStack t) S) .colours .gray 0 ≡ S .colours .gray 0
       globals = shadeAll-nil (S .graph) (S .graph .slot t) slotCount (S .colours) (I .tricolour m .nil)
 
-      stacks : total ((run (scanStack t) S) .colours .grayStack) n < total (S .colours .grayStack) n
+      stacks : total ((perform (scanStack t) S) .colours .grayStack) n < total (S .colours .grayStack) n
       stacks = rw (shadeAll-grayStack (S .graph) (S .graph .slot t) slotCount (S .colours))
           (total-lt (update (S .colours .grayStack) t false) (S .colours .grayStack) n t h (rw (update-same (S .colours .grayStack) t false) tt) g
           (λ u k. update-case (λ (b : Bool). T b → T (S .colours .grayStack u)) (S .colours .grayStack) t false u (λ _ a. absurd a) (λ a. a)))
@@ -102,14 +106,14 @@ module _ (S : State) (I : Invariant S) (p : S .phase ≡ mark) where
   markAt-stacks x = shadeAll-grayStack (S .graph) (S .graph .field x) (S .graph .pointers x) (ungray x (S .colours))
 
   -- a scan of the gray globals
-  pub globals-falls : (n : ℕ) → T (S .colours .gray 0) → left n (run scanGlobals S) < left n S
-  unfolding run
+  pub globals-falls : (n : ℕ) → T (S .colours .gray 0) → left n (perform scanGlobals S) < left n S
+  unfolding perform
   globals-falls n g = rw (markAt-stacks 0, markAt-nil 0, update-same (S .colours .gray) 0 false, of-true (S .colours .gray 0) g)
       (omega (arith, whites-le S (markAt 0 S) (markAt-allocated 0 S) (markAt-born 0 S) (darkens scanGlobals S tt p I m .black)))
 
   -- a mark step
-  pub mark-falls : (n x : ℕ) → 0 < x → T (S .colours .gray x) → left n (run (markStep x) S) < left n S
-  unfolding run
+  pub mark-falls : (n x : ℕ) → 0 < x → T (S .colours .gray x) → left n (perform (markStep x) S) < left n S
+  unfolding perform
   mark-falls n x z g = rw (markAt-stacks x, markAt-nil x, update-other (S .colours .gray) x false 0 (omega arith)) (omega (arith, fewer))
     where
       a : T (S .allocated x)
@@ -134,19 +138,19 @@ module _ (S : State) (I : Invariant S) (p : S .phase ≡ mark) where
           (λ y _ _. not-both (S .allocated y) (black (S .colours) y) (black ((markAt x S) .colours) y) (darkens (markStep x) S tt (p, z, g) I m .black y)))
 
 -- a scan or a mark step
-pub data Collecting : Call → Type 0 where
+pub data Collecting : Operation → Type 0 where
   scan : (t : ℕ) → Collecting (scanStack t)
   globals : Collecting scanGlobals
   step : (x : ℕ) → Collecting (markStep x)
 
-unfoldable pub AllCollecting : List Call → Type 0
+unfoldable pub AllCollecting : List Operation → Type 0
 AllCollecting [] = Unit {0}
 AllCollecting (c ∷ cs) = Collecting c × AllCollecting cs
 
 -- finish may be called, or a scan or mark step may be and lowers what is left to do
 pub data Next (n : ℕ) (S : State) : Type 0 where
   finishes : Allowed finish S → Next n S
-  collects : (c : Call) → Collecting c → Allowed c S → left n (run c S) < left n S → Next n S
+  collects : (c : Operation) → Collecting c → Allowed c S → left n (perform c S) < left n S → Next n S
 
 abbrev pub StacksBelow : ℕ → State → Type 0
 StacksBelow n S = (t : ℕ) → T (S .colours .grayStack t) → t < n
@@ -179,14 +183,14 @@ next n S I p b = stacks (find (S .colours .grayStack) n)
     stacks (inr f) = records (none (S .colours .grayStack) n f b) (find (S .colours .gray) (S .graph .born))
 
 -- such a call stays in the mark phase and makes no stack gray
-pub collecting-phase : {c : Call} → Collecting c → (S : State) → (run c S) .phase ≡ S .phase
-unfolding run markAt
+pub collecting-phase : {c : Operation} → Collecting c → (S : State) → (perform c S) .phase ≡ S .phase
+unfolding perform markAt
 collecting-phase (scan t) S = refl
 collecting-phase globals S = refl
 collecting-phase (step x) S = refl
 
-collecting-stacks : {c : Call} → Collecting c → (S : State) (t : ℕ) → T ((run c S) .colours .grayStack t) → T (S .colours .grayStack t)
-unfolding run markAt setGrayStack ungray
+collecting-stacks : {c : Operation} → Collecting c → (S : State) (t : ℕ) → T ((perform c S) .colours .grayStack t) → T (S .colours .grayStack t)
+unfolding perform markAt setGrayStack ungray
 collecting-stacks (scan u) S t = rw (shadeAll-grayStack (S .graph) (S .graph .slot u) slotCount (S .colours))
     (update-case (λ (b : Bool). T b → T (S .colours .grayStack t)) (S .colours .grayStack) u false t (λ _ a. absurd a) (λ a. a))
 collecting-stacks globals S t = rw (shadeAll-grayStack (S .graph) (S .graph .field 0) (S .graph .pointers 0) (ungray 0 (S .colours)))
@@ -196,22 +200,22 @@ collecting-stacks (step x) S t = rw (shadeAll-grayStack (S .graph) (S .graph .fi
 
 -- PROGRESS in the mark phase: no more scans and mark steps than are left to do, and then finish may be called
 pub record Finishes (S : State) (k : ℕ) : Type 0 where
-  pub calls : List Call
+  pub calls : List Operation
   pub collecting : AllCollecting calls
   pub allowed : AllAllowed calls S
   pub short : length calls ≤ k
-  pub finish : Allowed finish (runs calls S)
+  pub finish : Allowed finish (performAll calls S)
 
 within : (k n : ℕ) (S : State) → left n S ≤ k → Invariant S → S .phase ≡ mark → StacksBelow n S → Finishes S k
-unfolding AllCollecting AllAllowed runs
+unfolding AllCollecting AllAllowed performAll
 within zero n S l I p b = go (next n S I p b)
   where
     go : Next n S → Finishes S 0
     go (finishes f) = record { calls = []; collecting = tt; allowed = tt; short = omega arith; finish = f }
     go (collects c d a h) = absurd (omega arith)
-within (suc k) n S l I p b = go (next n S I p b) (λ c d a h. within k n (run c S) (omega arith) (run-keeps c S a I) (collecting-phase d S ∙ p) (λ t g. b t (collecting-stacks d S t g)))
+within (suc k) n S l I p b = go (next n S I p b) (λ c d a h. within k n (perform c S) (omega arith) (perform-keeps c S a I) (collecting-phase d S ∙ p) (λ t g. b t (collecting-stacks d S t g)))
   where
-    go : Next n S → ((c : Call) → Collecting c → Allowed c S → left n (run c S) < left n S → Finishes (run c S) k) → Finishes S (suc k)
+    go : Next n S → ((c : Operation) → Collecting c → Allowed c S → left n (perform c S) < left n S → Finishes (perform c S) k) → Finishes S (suc k)
     go (finishes f) r = record { calls = []; collecting = tt; allowed = tt; short = omega arith; finish = f }
     go (collects c d a h) r = let F = r c d a h in
         record { calls = c ∷ F .calls; collecting = (d, F .collecting); allowed = (a, F .allowed); short = omega (arith, F .short); finish = F .finish }
@@ -224,8 +228,8 @@ abbrev pub unkept : State → ℕ
 unkept S = count (λ x. S .allocated x && not (S .kept x)) (S .graph .born)
 
 pub sweep-falls : (S : State) → Invariant S → (q : ℕ → Bool) (x : ℕ) → 0 < x → T (S .allocated x) → T (not (S .kept x)) → T (q x) →
-    unkept (run (sweepStep q) S) < unkept S
-unfolding run
+    unkept (perform (sweepStep q) S) < unkept S
+unfolding perform
 sweep-falls S I q x z a k h = count-lt (λ y. cond (q y) (S .kept y) (S .allocated y) && not (S .kept y))
     (λ y. S .allocated y && not (S .kept y)) (S .graph .born) x z (I .allocatedBorn x a)
     (gone (q x) (S .kept x) (S .allocated x) h) (and-both (S .allocated x) (not (S .kept x)) a k) (λ y _ _. was (q y) (S .kept y) (S .allocated y))
@@ -255,6 +259,6 @@ sweep-ends S I p e = (p, λ x a. go x a (test (S .kept x)) (test (eqb x 0)))
     ))
 
 -- one sweep step over all the heap will do
-pub sweep-progress : (S : State) → Invariant S → S .phase ≡ sweep → Allowed endCycle (run (sweepStep (λ x. true)) S)
-unfolding run
+pub sweep-progress : (S : State) → Invariant S → S .phase ≡ sweep → Allowed endCycle (perform (sweepStep (λ x. true)) S)
+unfolding perform
 sweep-progress S I p = (p, λ x k. k)

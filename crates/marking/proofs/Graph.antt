@@ -7,15 +7,10 @@ use mathlib.Core.Logic.{_⊎_, inl, inr}
 use Prim.Native.Nat.{ℕ, suc, _≤_, _<_}
 use native.Mathlib.Omega.{arith}
 use lib.Dec.{T, T-not}
-use Rattle.marking.specs.Updates.{update, update2, update-case, update2-case, update-same}
-use Rattle.marking.specs.Closure.{Closure}
-
--- "16 stacks of 32 slots"; "global g is 512+g (32 of them)"
-abbrev pub slotCount : ℕ
-slotCount = 32
-
-abbrev pub globalCount : ℕ
-globalCount = 32
+use Rattle.model.specs.Memory.{slotCount}
+use Rattle.marking.specs.Updates.{update, update2}
+use Rattle.marking.proofs.Updates.{update-case, update2-case, update-same}
+use Rattle.marking.proofs.Closure.{Closure}
 
 -- the nodes below `born` have been born; pointer fields of a node; what field f of node x holds; what slot i of stack t holds; the open stacks
 pub record Graph : Type 0 where

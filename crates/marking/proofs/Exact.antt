@@ -6,32 +6,34 @@ use mathlib.Core.List.{List}
 use Prim.Native.Nat.{ℕ, suc, _≤_, _<_}
 use native.Mathlib.Omega.{arith}
 use lib.Dec.{T, ltb, eqb→eq, nltb→le, ltb→lt}
-use Rattle.marking.specs.Updates.{update-same, test, of-true, and-both, and-left, and-right}
-use Rattle.marking.specs.Effect.{inCycle, inMarking, inCycle-lasting}
-use Rattle.marking.specs.Closure.{Closure, here, next, closure-in}
-use Rattle.marking.specs.Graph.{slotCount, setSlot, emptyStack, birth}
-use Rattle.marking.specs.Colours.{Colours, Marked, shade, shadeAll, ungray, setGrayStack, blacken, shade-grows, shade-marks, shadeAll-ungray}
-use Rattle.marking.specs.Calls
-use Rattle.marking.specs.Calls.{State, marking, Call, Allowed, run, markAt, callEffect, freedByAll}
-use Rattle.marking.specs.Safety.{run-keeps, finish-closed}
-use Rattle.marking.specs.Cycle.{sweeping, freed-one, freed-none, cycle-finish}
-use Rattle.marking.specs.Work.{darkens}
-use Rattle.marking.specs.Heap.{Heap, wordOf}
-use Rattle.marking.specs.Represents.{Layout, Live}
+use Rattle.marking.proofs.Updates.{update-same, test, of-true, and-both, and-left, and-right}
+use Rattle.marking.specs.Effect.{inCycle, inMarking}
+use Rattle.marking.proofs.Effects.{inCycle-lasting}
+use Rattle.marking.proofs.Closure.{Closure, here, next, closure-in}
+use Rattle.model.specs.Memory.{slotCount, wordOf}
+use Rattle.marking.proofs.Graph.{setSlot, emptyStack, birth}
+use Rattle.marking.proofs.Colours.{Colours, Marked, shade, shadeAll, ungray, setGrayStack, blacken, shade-grows, shade-marks, shadeAll-ungray}
+use Rattle.marking.proofs.Operations
+use Rattle.marking.proofs.Operations.{State, Operation, Allowed, perform, markAt, operationEffect, freedByAll}
+use Rattle.marking.specs.WordHeap.{marking, WordHeap}
+use Rattle.marking.proofs.Safety.{perform-keeps, finish-closed}
+use Rattle.marking.proofs.Cycle.{sweeping, freed-one, freed-none, cycle-finish}
+use Rattle.marking.proofs.Work.{darkens}
+use Rattle.marking.proofs.Represents.{Layout, Live}
 use Rattle.marking.specs.Ledger.{Ledger, Event, effect, Each, feed, feedAll, empty}
 use Rattle.marking.specs.Trace
 use Rattle.marking.specs.Trace.{Step, Steps, ready, more}
 use Rattle.marking.specs.Claim.{isAllocated, workIn, freedDuring, freedToEnd}
-use Rattle.marking.specs.Agreement.{Agrees}
-use Rattle.marking.specs.Refinement
-use Rattle.marking.specs.Refinement.{Becomes, agree, slot-record}
-use Rattle.marking.specs.Matches.{at-is}
-use Rattle.marking.specs.Freed.{isAllocated-is, Within, within, reached, fresh-reached, end-frees}
-use Rattle.marking.specs.Saving.{Saving, With, save-plain, save-shades, save-birth, save-store}
+use Rattle.marking.proofs.Agreement.{Agrees}
+use Rattle.marking.proofs.Refinement
+use Rattle.marking.proofs.Refinement.{Becomes, agree, slot-record}
+use Rattle.marking.proofs.Matches.{at-is}
+use Rattle.marking.proofs.Freed.{isAllocated-is, Within, within, reached, fresh-reached, end-frees}
+use Rattle.marking.proofs.Saving.{Saving, With, save-plain, save-shades, save-birth, save-store}
 use Rattle.marking.specs.Survivors.{From, itself, field, Saves, SavedBy, Saved, isMarked, Exact}
 
 -- what a value reaches, in the ledger and in the graph
-module _ {H : Heap} {L : Ledger} {S : State} {Y : Layout} (R : Agrees H L S Y) where
+module _ {H : WordHeap} {L : Ledger} {S : State} {Y : Layout} (R : Agrees H L S Y) where
   from-positive : {v x : ℕ} → From L v x → 0 < x
   from-positive (itself z) = z
   from-positive (field r f h z) = z
@@ -55,35 +57,35 @@ markAt-field : (x : ℕ) (S : State) → (markAt x S) .graph .field ≡ S .graph
 unfolding markAt
 markAt-field x S = refl
 
-finish-born : (S : State) → (run Calls.finish S) .graph .born ≡ S .graph .born
-unfolding run
+finish-born : (S : State) → (perform Operations.finish S) .graph .born ≡ S .graph .born
+unfolding perform
 finish-born S = refl
 
-finish-allocated : (S : State) → (run Calls.finish S) .allocated ≡ S .allocated
-unfolding run
+finish-allocated : (S : State) → (perform Operations.finish S) .allocated ≡ S .allocated
+unfolding perform
 finish-allocated S = refl
 
-finish-kept : (S : State) → (run Calls.finish S) .kept ≡ S .colours .marked
-unfolding run
+finish-kept : (S : State) → (perform Operations.finish S) .kept ≡ S .colours .marked
+unfolding perform
 finish-kept S = refl
 
-finish-sweeps : (S : State) → T (sweeping ((run Calls.finish S) .phase))
-unfolding run
+finish-sweeps : (S : State) → T (sweeping ((perform Operations.finish S) .phase))
+unfolding perform
 finish-sweeps S = tt
 
 -- a list of calls in the mark phase has left H and L, and K is what they saved
-record Kept (K : ℕ → Type 0) (H : Heap) (L : Ledger) : Type 0 where
+record Kept (K : ℕ → Type 0) (H : WordHeap) (L : Ledger) : Type 0 where
   state : State
   layout : Layout
   agrees : Agrees H L state layout
   marks : T (marking (state .phase))
   saving : Saving K state
 
-module _ {K : ℕ → Type 0} {H : Heap} {L : Ledger} {S : State} {Y : Layout} (R : Agrees H L S Y) (m : T (marking (S .phase))) (Z : Saving K S) where
-  keeps : {A : ℕ → Type 0} {c : Call} {H′ : Heap} {L′ : Ledger} → T (inMarking (callEffect c)) → Becomes c H′ L′ S →
-      Saving (With K A) (run c S) → Kept (With K A) H′ L′
+module _ {K : ℕ → Type 0} {H : WordHeap} {L : Ledger} {S : State} {Y : Layout} (R : Agrees H L S Y) (m : T (marking (S .phase))) (Z : Saving K S) where
+  keeps : {A : ℕ → Type 0} {c : Operation} {H′ : WordHeap} {L′ : Ledger} → T (inMarking (operationEffect c)) → Becomes c H′ L′ S →
+      Saving (With K A) (perform c S) → Kept (With K A) H′ L′
   keeps {A} {c} w B V′ = record {
-    state = run c S;
+    state = perform c S;
     layout = B .layout;
     agrees = agree R B;
     marks = darkens c S w (B .allowed) (R .invariant) m .phase;
@@ -94,23 +96,23 @@ module _ {K : ℕ → Type 0} {H : Heap} {L : Ledger} {S : State} {Y : Layout} (
   nothing x f a z = a
 
   save-idle : (A : ℕ → Type 0) → ((x f : ℕ) → A x → 0 < S .graph .field x f → A (S .graph .field x f)) →
-      ((x : ℕ) → A x → Closure (S .graph .field) (Marked (S .colours)) x) → Saving (With K A) (run Calls.idle S)
-  unfolding run
+      ((x : ℕ) → A x → Closure (S .graph .field) (Marked (S .colours)) x) → Saving (With K A) (perform Operations.idle S)
+  unfolding perform
   save-idle A closed inside = save-plain S Z closed S refl refl inside
 
-  idles : {H′ : Heap} {L′ : Ledger} → Becomes Calls.idle H′ L′ S → Kept (With K (λ x. ⊥)) H′ L′
+  idles : {H′ : WordHeap} {L′ : Ledger} → Becomes Operations.idle H′ L′ S → Kept (With K (λ x. ⊥)) H′ L′
   idles B = keeps tt B (save-idle (λ x. ⊥) nothing (λ x a. absurd a))
 
-  assigns : {t i v : ℕ} {H′ : Heap} {L′ : Ledger} → Becomes (Calls.assign t i v) H′ L′ S → Kept (With K (λ x. ⊥)) H′ L′
-  unfolding run setSlot
-  assigns {t} {i} {v} B = keeps tt B (save-plain S Z nothing (run (Calls.assign t i v) S) refl refl (λ x a. absurd a))
+  assigns : {t i v : ℕ} {H′ : WordHeap} {L′ : Ledger} → Becomes (Operations.assign t i v) H′ L′ S → Kept (With K (λ x. ⊥)) H′ L′
+  unfolding perform setSlot
+  assigns {t} {i} {v} B = keeps tt B (save-plain S Z nothing (perform (Operations.assign t i v) S) refl refl (λ x a. absurd a))
 
-  resets : {t : ℕ} {b : Bool} {H′ : Heap} {L′ : Ledger} → Becomes (Calls.resetStack t b) H′ L′ S → Kept (With K (λ x. ⊥)) H′ L′
-  unfolding run emptyStack setGrayStack
-  resets {t} {b} B = keeps tt B (save-plain S Z nothing (run (Calls.resetStack t b) S) refl refl (λ x a. absurd a))
+  resets : {t : ℕ} {b : Bool} {H′ : WordHeap} {L′ : Ledger} → Becomes (Operations.resetStack t b) H′ L′ S → Kept (With K (λ x. ⊥)) H′ L′
+  unfolding perform emptyStack setGrayStack
+  resets {t} {b} B = keeps tt B (save-plain S Z nothing (perform (Operations.resetStack t b) S) refl refl (λ x a. absurd a))
 
   -- a and b are the old and the new value, as the ledger has them
-  stores : {t x f v a b : ℕ} {H′ : Heap} {L′ : Ledger} → S .graph .field x f ≡ a → v ≡ b → Becomes (Calls.store t x f v) H′ L′ S →
+  stores : {t x f v a b : ℕ} {H′ : WordHeap} {L′ : Ledger} → S .graph .field x f ≡ a → v ≡ b → Becomes (Operations.store t x f v) H′ L′ S →
       Kept (With K (λ y. From L a y ⊎ From L b y)) H′ L′
   stores {t} {x} {f} {v} {a} {b} p q B = keeps tt B
       (save-store S Z closed t x f v m (λ z. inl (rw p (itself (rw p at z)))) (λ z. inr (rw q (itself (rw q at z)))) inside)
@@ -128,10 +130,10 @@ module _ {K : ℕ → Type 0} {H : Heap} {L : Ledger} {S : State} {Y : Layout} (
           (rw (← p) (here (shade-grows (S .graph) v _ (S .graph .field x f) (shade-marks (S .graph) (S .graph .field x f) (S .colours))))) r
       inside y (inr r) = from-in R (rw (← q) (here (shade-marks (S .graph) v _))) r
 
-  births : {t i p : ℕ} {H′ : Heap} {L′ : Ledger} → Becomes (Calls.allocate t i p) H′ L′ S → Kept (With K (λ x. x ≡ suc (L .count))) H′ L′
-  unfolding run setSlot birth blacken
+  births : {t i p : ℕ} {H′ : WordHeap} {L′ : Ledger} → Becomes (Operations.allocate t i p) H′ L′ S → Kept (With K (λ x. x ≡ suc (L .count))) H′ L′
+  unfolding perform setSlot birth blacken
   births {t} {i} {p} B = keeps tt B
-      (save-birth S Z closed (run (Calls.allocate t i p) S) (R .invariant .shape) refl (rw (of-true (marking (S .phase)) m)) (R .describes .born) (λ x e. e ∙ sym (R .describes .born)))
+      (save-birth S Z closed (perform (Operations.allocate t i p) S) (R .invariant .shape) refl (rw (of-true (marking (S .phase)) m)) (R .describes .born) (λ x e. e ∙ sym (R .describes .born)))
     where
       closed : (x f : ℕ) → x ≡ suc (L .count) → 0 < S .graph .field x f → S .graph .field x f ≡ suc (L .count)
       closed x f e z = absurd
@@ -157,11 +159,11 @@ module _ {K : ℕ → Type 0} {H : Heap} {L : Ledger} {S : State} {Y : Layout} (
   globals-in : {P : ℕ → Type 0} → P 0 → (x : ℕ) → Globals x → Closure (S .graph .field) P x
   globals-in n x a = from-in R (rw (← (R .describes .global (a .0))) (next (here n) (a .0))) (a .1)
 
-  scans : {s : ℕ} {H′ : Heap} {L′ : Ledger} → Becomes (Calls.scanStack s) H′ L′ S → Kept (With K (Slots s)) H′ L′
-  unfolding run setGrayStack
-  scans {s} B = keeps tt B (save-shades S Z (slots-closed s) (run (Calls.scanStack s) S) (S .graph .slot s) slotCount refl refl
+  scans : {s : ℕ} {H′ : WordHeap} {L′ : Ledger} → Becomes (Operations.scanStack s) H′ L′ S → Kept (With K (Slots s)) H′ L′
+  unfolding perform setGrayStack
+  scans {s} B = keeps tt B (save-shades S Z (slots-closed s) (perform (Operations.scanStack s) S) (S .graph .slot s) slotCount refl refl
       (λ i z. inr (i, rw (R .describes .slot s i) (itself (rw (R .describes .slot s i) at z))))
-      (slots-in s (λ i. run-keeps (Calls.scanStack s) S (B .allowed) (R .invariant) .tricolour m .scanned s i (rw (update-same ((shadeAll (S .graph) (S .graph .slot s) slotCount (S .colours)) .grayStack) s false) tt))))
+      (slots-in s (λ i. perform-keeps (Operations.scanStack s) S (B .allowed) (R .invariant) .tricolour m .scanned s i (rw (update-same ((shadeAll (S .graph) (S .graph .slot s) slotCount (S .colours)) .grayStack) s false) tt))))
 
   rescans : (s : ℕ) → T (not (H .bits .grayStack s)) → Kept (With K (Slots s)) H L
   rescans s g = keeps tt (Refinement.step-idle R) (save-idle (Slots s) (slots-closed s)
@@ -173,25 +175,25 @@ module _ {K : ℕ → Type 0} {H : Heap} {L : Ledger} {S : State} {Y : Layout} (
   markAt-marked x d = ap (λ (C : Colours). C .marked)
       (shadeAll-ungray (S .graph) (S .graph .field x) (S .graph .pointers x) x (S .colours) d)
 
-  scansGlobals : {H′ : Heap} {L′ : Ledger} → Becomes Calls.scanGlobals H′ L′ S → Kept (With K Globals) H′ L′
-  unfolding run
+  scansGlobals : {H′ : WordHeap} {L′ : Ledger} → Becomes Operations.scanGlobals H′ L′ S → Kept (With K Globals) H′ L′
+  unfolding perform
   scansGlobals B = keeps tt B
-      (save-shades S Z globals-closed (run Calls.scanGlobals S) (S .graph .field 0) (S .graph .pointers 0) (markAt-field 0 S) (markAt-marked 0 (R .invariant .tricolour m .nil))
+      (save-shades S Z globals-closed (perform Operations.scanGlobals S) (S .graph .field 0) (S .graph .pointers 0) (markAt-field 0 S) (markAt-marked 0 (R .invariant .tricolour m .nil))
       (λ g z. inr (g, rw (R .describes .global g) (itself (rw (R .describes .global g) at z))))
-      (globals-in (run-keeps Calls.scanGlobals S (B .allowed) (R .invariant) .tricolour (darkens Calls.scanGlobals S tt (B .allowed) (R .invariant) m .phase) .nil)))
+      (globals-in (perform-keeps Operations.scanGlobals S (B .allowed) (R .invariant) .tricolour (darkens Operations.scanGlobals S tt (B .allowed) (R .invariant) m .phase) .nil)))
 
   rescansGlobals : Kept (With K Globals) H L
   rescansGlobals = keeps tt (Refinement.step-idle R) (save-idle Globals globals-closed (globals-in (R .invariant .tricolour m .nil)))
 
-  takes : {x : ℕ} {H′ : Heap} {L′ : Ledger} → Becomes (Calls.markStep x) H′ L′ S → Kept (With K (λ x. ⊥)) H′ L′
-  unfolding run
+  takes : {x : ℕ} {H′ : WordHeap} {L′ : Ledger} → Becomes (Operations.markStep x) H′ L′ S → Kept (With K (λ x. ⊥)) H′ L′
+  unfolding perform
   takes {x} B =
       let d = R .invariant .tricolour m .grayMarked x (B .allowed .2) in
-      keeps tt B (save-shades S Z nothing (run (Calls.markStep x) S) (S .graph .field x) (S .graph .pointers x) (markAt-field x S) (markAt-marked x d)
+      keeps tt B (save-shades S Z nothing (perform (Operations.markStep x) S) (S .graph .field x) (S .graph .pointers x) (markAt-field x S) (markAt-marked x d)
       (λ f z. inl (Z .step x f (Z .marked x (B .allowed .1) d) z)) (λ x a. absurd a))
 
   -- EVERY CALL in the mark phase saves what it is said to save
-  saves : {e : Event} {H′ : Heap} → Step H e H′ → T (inMarking (effect e)) → Kept (With K (Saves e L)) H′ (feed e L)
+  saves : {e : Event} {H′ : WordHeap} → Step H e H′ → T (inMarking (effect e)) → Kept (With K (Saves e L)) H′ (feed e L)
   unfolding feed
   saves Trace.refused w = idles (Refinement.step-idle R)
   saves Trace.audit w = idles (Refinement.step-idle R)
@@ -221,28 +223,28 @@ module _ {K : ℕ → Type 0} {H : Heap} {L : Ledger} {S : State} {Y : Layout} (
   saves (Trace.endCycle A p h) w = absurd w
 
 -- .. and so does a list of calls
-saves-all : {H H′ : Heap} {es : List Event} → Steps H es H′ → Each inMarking es → {K : ℕ → Type 0} {L : Ledger} → Kept K H L →
+saves-all : {H H′ : WordHeap} {es : List Event} → Steps H es H′ → Each inMarking es → {K : ℕ → Type 0} {L : Ledger} → Kept K H L →
     Kept (SavedBy es L K) H′ (feedAll es L)
 unfolding SavedBy feedAll Each
 saves-all ready w N = N
 saves-all (more s ss) w N = saves-all ss (w .1) (saves (N .agrees) (N .marks) (N .saving) s (w .0))
 
 -- nothing is saved at a start
-start-kept : {H H′ : Heap} {L : Ledger} {S : State} {Y : Layout} → Agrees H L S Y → Step H Event.start H′ → Kept (λ x. ⊥) H′ L
-unfolding run
+start-kept : {H H′ : WordHeap} {L : Ledger} {S : State} {Y : Layout} → Agrees H L S Y → Step H Event.start H′ → Kept (λ x. ⊥) H′ L
+unfolding perform
 start-kept {S = S} R (Trace.start A p) = record {
-  state = run Calls.start S;
+  state = perform Operations.start S;
   layout = Refinement.step-start R A p .layout;
   agrees = agree R (Refinement.step-start R A p);
   marks = tt;
   saving = record { marked = λ x z e. absurd (omega (arith, eqb→eq x 0 e)); step = λ x f k. absurd k; within = λ x k. absurd k };
 }
 
-ends : {H H′ : Heap} {L : Ledger} {S : State} {Y : Layout} → Step H Event.endCycle H′ → Agrees H L S Y → Allowed Calls.endCycle S
+ends : {H H′ : WordHeap} {L : Ledger} {S : State} {Y : Layout} → Step H Event.endCycle H′ → Agrees H L S Y → Allowed Operations.endCycle S
 ends (Trace.endCycle A q f) R = Refinement.step-endCycle R A q f .allowed
 
 -- AT A FINISH the saved records are the marked ones
-module _ {K : ℕ → Type 0} {H : Heap} {L : Ledger} {S : State} {Y : Layout} (R : Agrees H L S Y) (m : T (marking (S .phase))) (Z : Saving K S) (p : Allowed Calls.finish S) where
+module _ {K : ℕ → Type 0} {H : WordHeap} {L : Ledger} {S : State} {Y : Layout} (R : Agrees H L S Y) (m : T (marking (S .phase))) (Z : Saving K S) (p : Allowed Operations.finish S) where
   saved-marked : (x : ℕ) → K x → Marked (S .colours) x
   saved-marked x k = closure-in (Marked (S .colours)) (λ y d. d)
       (finish-closed (R .invariant .shape) (R .invariant .keptClosed) (R .invariant .tricolour m) (p .1) (p .2) .step) (Z .within x k)
@@ -265,29 +267,29 @@ module _ {K : ℕ → Type 0} {H : Heap} {L : Ledger} {S : State} {Y : Layout} (
       and-both (isAllocated L H x) _ (rw (isAllocated-is R x z k) (l .1)) (rw (bit x l) d)
 
   -- the rest of the cycle
-  module _ {H₃ H₄ H₅ : Heap} {fs : List Event} (B : Becomes Calls.finish H₃ L S) (ss : Steps H₃ fs H₄) (w : Each inCycle fs) (t : Step H₄ Event.endCycle H₅)
+  module _ {H₃ H₄ H₅ : WordHeap} {fs : List Event} (B : Becomes Operations.finish H₃ L S) (ss : Steps H₃ fs H₄) (w : Each inCycle fs) (t : Step H₄ Event.endCycle H₅)
       (x : ℕ) (z : 0 < x) (k : x < S .graph .born) (a : T (S .allocated x)) where
-    W : Within inCycle (workIn fs) H₄ (feedAll fs L) (run Calls.finish S) (λ x. freedDuring x L ss)
+    W : Within inCycle (workIn fs) H₄ (feedAll fs L) (perform Operations.finish S) (λ x. freedDuring x L ss)
     W = within inCycle inCycle-lasting ss w (agree R B)
 
-    frees : freedToEnd x L ss H₅ ≡ freedByAll x (W .calls) (run Calls.finish S)
+    frees : freedToEnd x L ss H₅ ≡ freedByAll x (W .calls) (perform Operations.finish S)
     frees = omega (arith, W .frees x z (rw (finish-born S) k), end-frees x (feedAll fs L) t)
 
     frees-lost : ¬ (K x) → freedToEnd x L ss H₅ ≡ 1
-    frees-lost u = frees ∙ freed-one (run Calls.finish S) (run-keeps Calls.finish S p (R .invariant)) (W .calls) (W .each) (W .allowed)
+    frees-lost u = frees ∙ freed-one (perform Operations.finish S) (perform-keeps Operations.finish S p (R .invariant)) (W .calls) (W .each) (W .allowed)
         (ends t (W .agrees)) x (rw (finish-allocated S) a)
         (cycle-finish S (R .invariant) p) k (λ d. u (Z .marked x z d))
 
     frees-saved : K x → freedToEnd x L ss H₅ ≡ 0
-    frees-saved s = frees ∙ freed-none (run Calls.finish S) (run-keeps Calls.finish S p (R .invariant)) (W .calls) (W .each) (W .allowed)
+    frees-saved s = frees ∙ freed-none (perform Operations.finish S) (perform-keeps Operations.finish S p (R .invariant)) (W .calls) (W .each) (W .allowed)
         (ends t (W .agrees)) x (rw (finish-allocated S) a)
         (finish-sweeps S) (rw (finish-kept S) (saved-marked x s))
 
 -- of what a list of calls has reached
-pub reached-exact : {H : Heap} {L : Ledger} {S : State} {Y : Layout} → Agrees H L S Y → Exact H L
+pub reached-exact : {H : WordHeap} {L : Ledger} {S : State} {Y : Layout} → Agrees H L S Y → Exact H L
 reached-exact {H} {L} R = record { marked = marked; freed = freed }
   where
-    marked : {H₁ H₂ H₃ : Heap} {es : List Event} → Step H Event.start H₁ → Steps H₁ es H₂ → Each inMarking es → Step H₂ Event.finish H₃ →
+    marked : {H₁ H₂ H₃ : WordHeap} {es : List Event} → Step H Event.start H₁ → Steps H₁ es H₂ → Each inMarking es → Step H₂ Event.finish H₃ →
         (x : ℕ) → 0 < x → x ≤ feedAll es L .count → (T (isMarked (feedAll es L) H₂ x) → Saved es L x) × (Saved es L x → T (isMarked (feedAll es L) H₂ x))
     marked s ss w (Trace.finish u A p g gg gs h) x z k =
         let N = saves-all ss w (start-kept R s) in
@@ -295,7 +297,7 @@ reached-exact {H} {L} R = record { marked = marked; freed = freed }
         let l : x < N .state .graph .born = omega (arith, N .agrees .describes .born) in
         (marks-saved (N .agrees) (N .marks) (N .saving) q x z l, saved-marks (N .agrees) (N .marks) (N .saving) q x z l)
 
-    freed : {H₁ H₂ H₃ H₄ H₅ : Heap} {es fs : List Event} → Step H Event.start H₁ → Steps H₁ es H₂ → Each inMarking es →
+    freed : {H₁ H₂ H₃ H₄ H₅ : WordHeap} {es fs : List Event} → Step H Event.start H₁ → Steps H₁ es H₂ → Each inMarking es →
         Step H₂ Event.finish H₃ →
         (ss : Steps H₃ fs H₄) → Each inCycle fs → Step H₄ Event.endCycle H₅ →
         (x : ℕ) → 0 < x → x ≤ feedAll es L .count → T (isAllocated (feedAll es L) H₂ x) →
@@ -308,5 +310,5 @@ reached-exact {H} {L} R = record { marked = marked; freed = freed }
         (frees-lost (N .agrees) (N .marks) (N .saving) (B .allowed) B ss w t x z l b, frees-saved (N .agrees) (N .marks) (N .saving) (B .allowed) B ss w t x z l b)
 
 -- THE THEOREM: after a setup and any list of calls
-pub exactly : {H₀ H₁ H₂ : Heap} {es : List Event} → Step H₀ Event.setup H₁ → Steps H₁ es H₂ → Exact H₂ (feedAll es empty)
+pub exactly : {H₀ H₁ H₂ : WordHeap} {es : List Event} → Step H₀ Event.setup H₁ → Steps H₁ es H₂ → Exact H₂ (feedAll es empty)
 exactly (Trace.setup H₁ F) ss = reached-exact (reached ss (fresh-reached H₁ F) .agrees)

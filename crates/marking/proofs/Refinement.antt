@@ -6,35 +6,37 @@ use mathlib.Core.Logic.{_⊎_, inl, inr, _≢_}
 use Prim.Native.Nat.{ℕ, suc, _+_, _≤_, _<_}
 use native.Mathlib.Omega.{arith}
 use lib.Dec.{T, eqb, ltb, eqb→eq}
-use Rattle.marking.specs.Updates.{update, update-other, update-is, added-only, test, of-true, differ, is-true}
-use Rattle.marking.specs.Graph.{slotCount, globalCount, setSlot, setField, emptyStack, birth}
-use Rattle.marking.specs.Calls
-use Rattle.marking.specs.Calls.{State, Phase, off, mark, sweep, marking, Call, Held, Source, Allowed, run, markAt, callEffect}
-use Rattle.marking.specs.Safety.{run-keeps}
-use Rattle.marking.specs.Heap.{addressOf, Heap, Audited, Elements, Alike, wordOf, heapAssign, heapStore, heapStoreGlobal, heapPut, heapResetStack, heapStart, heapScanStack, heapScanGlobals, heapMarkStep, heapFinish, heapSweep, heapEndCycle, heapAllocate}
-use Rattle.marking.specs.Represents.{Layout, address, Live, Represents, address-nil, word-address}
-use Rattle.marking.specs.Simulation
-use Rattle.marking.specs.Simulation.{nil-or-live}
-use Rattle.marking.specs.Birth.{placeRecord, represents-allocate}
+use Rattle.marking.specs.Updates.{update}
+use Rattle.marking.proofs.Updates.{update-other, update-is, added-only, test, of-true, differ, is-true}
+use Rattle.model.specs.Memory.{slotCount, globalCount, addressOf, wordOf}
+use Rattle.marking.proofs.Graph.{setSlot, setField, emptyStack, birth}
+use Rattle.marking.proofs.Operations
+use Rattle.marking.proofs.Operations.{State, Operation, Held, Source, Allowed, perform, markAt, operationEffect}
+use Rattle.marking.specs.WordHeap.{Phase, off, mark, sweep, marking, WordHeap, LegalColours, Elements, Alike, heapAssign, heapStore, heapStoreGlobal, heapPut, heapResetStack, heapStart, heapScanStack, heapScanGlobals, heapMarkStep, heapFinish, heapSweep, heapEndCycle, heapAllocate}
+use Rattle.marking.proofs.Safety.{perform-keeps}
+use Rattle.marking.proofs.Represents.{Layout, address, Live, Represents, address-nil, word-address}
+use Rattle.marking.proofs.Simulation
+use Rattle.marking.proofs.Simulation.{nil-or-live}
+use Rattle.marking.proofs.Birth.{placeRecord, represents-allocate}
 use Rattle.marking.specs.Ledger.{Ledger, Event, effect, feed, empty, withSlot, withStack, withPointer, withGlobal, withNumber, withRecord}
 use Rattle.marking.specs.Trace.{Step, Fresh, refused, audit, setup, openStack, closeStack, copy, clear, load, loadGlobal, store, put, get, storeGlobal, allocate, start, scanStack, rescanStack, scanGlobals, rescanGlobals, markStep, noneGray, finish, sweepStep, endCycle}
-use Rattle.marking.specs.Agreement.{Describes, LastThere, Agrees, noLayout, no-live, fresh-represents, empty-describes, describes-slot, describes-field, describes-global, describes-number, describes-stack, describes-birth}
+use Rattle.marking.proofs.Agreement.{Describes, LastThere, Agrees, noLayout, no-live, fresh-represents, empty-describes, describes-slot, describes-field, describes-global, describes-number, describes-stack, describes-birth}
 
 -- the heap H and the ledger L are as the call c leaves the state S
-pub record Becomes (c : Call) (H : Heap) (L : Ledger) (S : State) : Type 0 where
+pub record Becomes (c : Operation) (H : WordHeap) (L : Ledger) (S : State) : Type 0 where
   pub layout : Layout
   pub allowed : Allowed c S
-  pub represents : Represents H layout (L .number) (run c S)
-  pub describes : Describes L layout ((run c S) .graph)
-  pub last : LastThere layout ((run c S) .graph) ((run c S) .allocated)
+  pub represents : Represents H layout (L .number) (perform c S)
+  pub describes : Describes L layout ((perform c S) .graph)
+  pub last : LastThere layout ((perform c S) .graph) ((perform c S) .allocated)
 
 -- the call of the abstract heap that a step with event e is
-pub record AbstractStep (e : Event) (H : Heap) (L : Ledger) (S : State) : Type 0 where
-  pub call : Call
-  pub effect : callEffect call ≡ effect e
+pub record AbstractStep (e : Event) (H : WordHeap) (L : Ledger) (S : State) : Type 0 where
+  pub call : Operation
+  pub effect : operationEffect call ≡ effect e
   pub becomes : Becomes call H L S
 
-module _ {H : Heap} {L : Ledger} {S : State} {Y : Layout} (R : Agrees H L S Y) where
+module _ {H : WordHeap} {L : Ledger} {S : State} {Y : Layout} (R : Agrees H L S Y) where
   pub slot-record : (s j : ℕ) → 0 < H .slots s j →
       Live (S .allocated) (S .graph .slot s j) × (wordOf (H .slots s j) ≡ Y .at (S .graph .slot s j))
   slot-record s j h = go (nil-or-live (R .invariant) (S .graph .slot s j) (R .invariant .keptClosed .root s j))
@@ -47,9 +49,9 @@ module _ {H : Heap} {L : Ledger} {S : State} {Y : Layout} (R : Agrees H L S Y) w
   opened-too : (s : ℕ) → T (H .opened s) → T (S .graph .opened s)
   opened-too s o = rw (R .represents .opened s) at o
 
-  step-assign : (A : Audited H) (s i v : ℕ) → Source (S .graph) s v → T (H .opened s) → i < slotCount →
-      Becomes (Calls.assign s i v) (heapAssign s i (address Y v) H) (withSlot s i v L) S
-  unfolding run setSlot withSlot
+  step-assign : (A : LegalColours H) (s i v : ℕ) → Source (S .graph) s v → T (H .opened s) → i < slotCount →
+      Becomes (Operations.assign s i v) (heapAssign s i (address Y v) H) (withSlot s i v L) S
+  unfolding perform setSlot withSlot
   step-assign A s i v c o h = record {
     layout = Y;
     allowed = (c, h, opened-too s o);
@@ -58,34 +60,34 @@ module _ {H : Heap} {L : Ledger} {S : State} {Y : Layout} (R : Agrees H L S Y) w
     last = R .last;
   }
 
-  pub step-copy : (s i j : ℕ) → Audited H → T (H .opened s) → i < slotCount →
-      Becomes (Calls.assign s i (S .graph .slot s j)) (heapAssign s i (H .slots s j) H) (withSlot s i (L .slot s j) L) S
+  pub step-copy : (s i j : ℕ) → LegalColours H → T (H .opened s) → i < slotCount →
+      Becomes (Operations.assign s i (S .graph .slot s j)) (heapAssign s i (H .slots s j) H) (withSlot s i (L .slot s j) L) S
   step-copy s i j A o h = rw (← (R .describes .slot s j), R .represents .words .slot s j)
-      (step-assign A s i (S .graph .slot s j) (Calls.held (Calls.slot j)) o h)
+      (step-assign A s i (S .graph .slot s j) (Operations.held (Operations.slot j)) o h)
 
-  pub step-clear : (s i : ℕ) → Audited H → T (H .opened s) → i < slotCount →
-      Becomes (Calls.assign s i 0) (heapAssign s i 0 H) (withSlot s i 0 L) S
-  step-clear s i A o h = subst (λ (a : ℕ). Becomes (Calls.assign s i 0) (heapAssign s i a H) (withSlot s i 0 L) S) (address-nil Y)
-      (step-assign A s i 0 (Calls.held Calls.nil) o h)
+  pub step-clear : (s i : ℕ) → LegalColours H → T (H .opened s) → i < slotCount →
+      Becomes (Operations.assign s i 0) (heapAssign s i 0 H) (withSlot s i 0 L) S
+  step-clear s i A o h = subst (λ (a : ℕ). Becomes (Operations.assign s i 0) (heapAssign s i a H) (withSlot s i 0 L) S) (address-nil Y)
+      (step-assign A s i 0 (Operations.held Operations.nil) o h)
 
-  pub step-loadGlobal : (s i g : ℕ) → Audited H → T (H .opened s) → i < slotCount →
-      Becomes (Calls.assign s i (S .graph .field 0 g)) (heapAssign s i (H .globals g) H) (withSlot s i (L .global g) L) S
+  pub step-loadGlobal : (s i g : ℕ) → LegalColours H → T (H .opened s) → i < slotCount →
+      Becomes (Operations.assign s i (S .graph .field 0 g)) (heapAssign s i (H .globals g) H) (withSlot s i (L .global g) L) S
   step-loadGlobal s i g A o h = rw (← (R .describes .global g), R .represents .words .global g)
-      (step-assign A s i (S .graph .field 0 g) (Calls.field Calls.nil g) o h)
+      (step-assign A s i (S .graph .field 0 g) (Operations.field Operations.nil g) o h)
 
-  pub step-load : (s i j f : ℕ) → Audited H → T (H .opened s) → i < slotCount → 0 < H .slots s j →
+  pub step-load : (s i j f : ℕ) → LegalColours H → T (H .opened s) → i < slotCount → 0 < H .slots s j →
       f < H .elements .pointers (wordOf (H .slots s j)) →
-      Becomes (Calls.assign s i (S .graph .field (S .graph .slot s j) f)) (heapAssign s i (H .arena (wordOf (H .slots s j) + f)) H) (withSlot s i (L .pointer (L .slot s j) f) L) S
+      Becomes (Operations.assign s i (S .graph .field (S .graph .slot s j) f)) (heapAssign s i (H .arena (wordOf (H .slots s j) + f)) H) (withSlot s i (L .pointer (L .slot s j) f) L) S
   step-load s i j f A o h z b =
       let r = slot-record s j z in
       let b′ = rw (r .1, R .represents .placed .pointers (S .graph .slot s j) (r .0)) at b in
       rw (← (R .describes .slot s j), ← (R .describes .pointer (S .graph .slot s j) f (r .0 .0)), r .1, R .represents .words .pointer (S .graph .slot s j) f (r .0) b′)
-      (step-assign A s i (S .graph .field (S .graph .slot s j) f) (Calls.field (Calls.slot j) f) o h)
+      (step-assign A s i (S .graph .field (S .graph .slot s j) f) (Operations.field (Operations.slot j) f) o h)
 
-  step-store-at : (s x f v : ℕ) → Audited H → Held (S .graph) s x → Held (S .graph) s v → Live (S .allocated) x → f < S .graph .pointers x →
+  step-store-at : (s x f v : ℕ) → LegalColours H → Held (S .graph) s x → Held (S .graph) s v → Live (S .allocated) x → f < S .graph .pointers x →
       T (S .kept x) → T (S .kept v) →
-      Becomes (Calls.store s x f v) (heapStore (Y .at x + f) (address Y v) H) (withPointer x f v L) S
-  unfolding run setField withPointer
+      Becomes (Operations.store s x f v) (heapStore (Y .at x + f) (address Y v) H) (withPointer x f v L) S
+  unfolding perform setField withPointer
   step-store-at s x f v A hx hv l b kx kv = record {
     layout = Y;
     allowed = (hx, hv, b);
@@ -94,17 +96,17 @@ module _ {H : Heap} {L : Ledger} {S : State} {Y : Layout} (R : Agrees H L S Y) w
     last = R .last;
   }
 
-  pub step-store : (s j f k : ℕ) → Audited H → 0 < H .slots s j → f < H .elements .pointers (wordOf (H .slots s j)) →
-      Becomes (Calls.store s (S .graph .slot s j) f (S .graph .slot s k)) (heapStore (wordOf (H .slots s j) + f) (H .slots s k) H) (withPointer (L .slot s j) f (L .slot s k) L) S
+  pub step-store : (s j f k : ℕ) → LegalColours H → 0 < H .slots s j → f < H .elements .pointers (wordOf (H .slots s j)) →
+      Becomes (Operations.store s (S .graph .slot s j) f (S .graph .slot s k)) (heapStore (wordOf (H .slots s j) + f) (H .slots s k) H) (withPointer (L .slot s j) f (L .slot s k) L) S
   step-store s j f k A z b =
       let r = slot-record s j z in
       let b′ = rw (r .1, R .represents .placed .pointers (S .graph .slot s j) (r .0)) at b in
       rw (← (R .describes .slot s j), ← (R .describes .slot s k), r .1, R .represents .words .slot s k)
-      (step-store-at s (S .graph .slot s j) f (S .graph .slot s k) A (Calls.slot j) (Calls.slot k) (r .0) b′ (R .invariant .keptClosed .root s j) (R .invariant .keptClosed .root s k))
+      (step-store-at s (S .graph .slot s j) f (S .graph .slot s k) A (Operations.slot j) (Operations.slot k) (r .0) b′ (R .invariant .keptClosed .root s j) (R .invariant .keptClosed .root s k))
 
-  step-put-at : (x f v : ℕ) → Audited H → Live (S .allocated) x → S .graph .pointers x ≤ f → f < Y .words x →
-      Becomes Calls.idle (heapPut (Y .at x + f) v H) (withNumber x f v L) S
-  unfolding run withNumber
+  step-put-at : (x f v : ℕ) → LegalColours H → Live (S .allocated) x → S .graph .pointers x ≤ f → f < Y .words x →
+      Becomes Operations.idle (heapPut (Y .at x + f) v H) (withNumber x f v L) S
+  unfolding perform withNumber
   step-put-at x f v A l b c = record {
     layout = Y;
     allowed = tt;
@@ -113,32 +115,32 @@ module _ {H : Heap} {L : Ledger} {S : State} {Y : Layout} (R : Agrees H L S Y) w
     last = R .last;
   }
 
-  pub step-put : (s j f v : ℕ) → Audited H → 0 < H .slots s j → H .elements .pointers (wordOf (H .slots s j)) ≤ f →
+  pub step-put : (s j f v : ℕ) → LegalColours H → 0 < H .slots s j → H .elements .pointers (wordOf (H .slots s j)) ≤ f →
       f < H .elements .words (wordOf (H .slots s j)) →
-      Becomes Calls.idle (heapPut (wordOf (H .slots s j) + f) v H) (withNumber (L .slot s j) f v L) S
+      Becomes Operations.idle (heapPut (wordOf (H .slots s j) + f) v H) (withNumber (L .slot s j) f v L) S
   step-put s j f v A z b c =
       let r = slot-record s j z in
       let b′ = rw (r .1, R .represents .placed .pointers (S .graph .slot s j) (r .0)) at b in
       let c′ = rw (r .1, R .represents .placed .words (S .graph .slot s j) (r .0)) at c in
       rw (← (R .describes .slot s j), r .1) (step-put-at (S .graph .slot s j) f v A (r .0) b′ c′)
 
-  pub step-storeGlobal : (s g i : ℕ) → Audited H → g < globalCount →
-      Becomes (Calls.store s 0 g (S .graph .slot s i)) (heapStoreGlobal g (H .slots s i) H) (withGlobal g (L .slot s i) L) S
-  unfolding run setField withGlobal
+  pub step-storeGlobal : (s g i : ℕ) → LegalColours H → g < globalCount →
+      Becomes (Operations.store s 0 g (S .graph .slot s i)) (heapStoreGlobal g (H .slots s i) H) (withGlobal g (L .slot s i) L) S
+  unfolding perform setField withGlobal
   step-storeGlobal s g i A h = rw (← (R .describes .slot s i), R .represents .words .slot s i) go
     where
-      go : Becomes (Calls.store s 0 g (S .graph .slot s i)) (heapStoreGlobal g (address Y (S .graph .slot s i)) H) (withGlobal g (S .graph .slot s i) L) S
+      go : Becomes (Operations.store s 0 g (S .graph .slot s i)) (heapStoreGlobal g (address Y (S .graph .slot s i)) H) (withGlobal g (S .graph .slot s i) L) S
       go = record {
         layout = Y;
-        allowed = (Calls.nil, Calls.slot i, rw (R .describes .globals) h);
+        allowed = (Operations.nil, Operations.slot i, rw (R .describes .globals) h);
         represents = Simulation.represents-storeGlobal A (R .invariant) (R .represents) s g (S .graph .slot s i)
             (R .invariant .keptClosed .root s i);
         describes = describes-global (R .describes) g (S .graph .slot s i);
         last = R .last;
       }
 
-  pub step-resetStack : (s : ℕ) (b : Bool) → Audited H → Becomes (Calls.resetStack s b) (heapResetStack s b H) (withStack s b L) S
-  unfolding run emptyStack withStack
+  pub step-resetStack : (s : ℕ) (b : Bool) → LegalColours H → Becomes (Operations.resetStack s b) (heapResetStack s b H) (withStack s b L) S
+  unfolding perform emptyStack withStack
   step-resetStack s b A = record {
     layout = Y;
     allowed = tt;
@@ -150,8 +152,8 @@ module _ {H : Heap} {L : Ledger} {S : State} {Y : Layout} (R : Agrees H L S Y) w
   pub phased : {p : Phase} → H .phase ≡ p → S .phase ≡ p
   phased e = sym (R .represents .phase) ∙ e
 
-  pub step-start : Audited H → H .phase ≡ off → Becomes Calls.start (heapStart H) L S
-  unfolding run
+  pub step-start : LegalColours H → H .phase ≡ off → Becomes Operations.start (heapStart H) L S
+  unfolding perform
   step-start A p = record {
     layout = Y;
     allowed = phased p;
@@ -160,8 +162,8 @@ module _ {H : Heap} {L : Ledger} {S : State} {Y : Layout} (R : Agrees H L S Y) w
     last = R .last;
   }
 
-  pub step-scanStack : (s : ℕ) → Audited H → H .phase ≡ mark → Becomes (Calls.scanStack s) (heapScanStack s H) L S
-  unfolding run
+  pub step-scanStack : (s : ℕ) → LegalColours H → H .phase ≡ mark → Becomes (Operations.scanStack s) (heapScanStack s H) L S
+  unfolding perform
   step-scanStack s A p = record {
     layout = Y;
     allowed = phased p;
@@ -173,11 +175,11 @@ module _ {H : Heap} {L : Ledger} {S : State} {Y : Layout} (R : Agrees H L S Y) w
   is-marking : H .phase ≡ mark → T (marking (S .phase))
   is-marking p = rw (phased p) tt
 
-  pub step-scanGlobals : Audited H → H .phase ≡ mark → Becomes Calls.scanGlobals (heapScanGlobals globalCount H) L S
-  unfolding run markAt
+  pub step-scanGlobals : LegalColours H → H .phase ≡ mark → Becomes Operations.scanGlobals (heapScanGlobals globalCount H) L S
+  unfolding perform markAt
   step-scanGlobals A p = rw (← (R .describes .globals)) go
     where
-      go : Becomes Calls.scanGlobals (heapScanGlobals (S .graph .pointers 0) H) L S
+      go : Becomes Operations.scanGlobals (heapScanGlobals (S .graph .pointers 0) H) L S
       go = record {
         layout = Y;
         allowed = phased p;
@@ -186,9 +188,9 @@ module _ {H : Heap} {L : Ledger} {S : State} {Y : Layout} (R : Agrees H L S Y) w
         last = R .last;
       }
 
-  step-markStep-at : (x : ℕ) → Audited H → H .phase ≡ mark → Live (S .allocated) x → T (S .colours .gray x) →
-      Becomes (Calls.markStep x) (heapMarkStep (Y .at x) (S .graph .pointers x) H) L S
-  unfolding run markAt
+  step-markStep-at : (x : ℕ) → LegalColours H → H .phase ≡ mark → Live (S .allocated) x → T (S .colours .gray x) →
+      Becomes (Operations.markStep x) (heapMarkStep (Y .at x) (S .graph .pointers x) H) L S
+  unfolding perform markAt
   step-markStep-at x A p l g = record {
     layout = Y;
     allowed = (phased p, l .0, g);
@@ -198,20 +200,20 @@ module _ {H : Heap} {L : Ledger} {S : State} {Y : Layout} (R : Agrees H L S Y) w
     last = R .last;
   }
 
-  pub step-markStep : (w : ℕ) → Audited H → H .phase ≡ mark → T (H .bits .gray w) →
-      (x : ℕ) × Becomes (Calls.markStep x) (heapMarkStep w (H .elements .pointers w) H) L S
+  pub step-markStep : (w : ℕ) → LegalColours H → H .phase ≡ mark → T (H .bits .gray w) →
+      (x : ℕ) × Becomes (Operations.markStep x) (heapMarkStep w (H .elements .pointers w) H) L S
   step-markStep w A p g = go (R .represents .placed .only w (A .markedAllocated w (A .grayMarked w g)))
     where
       go : (x : ℕ) × Live (S .allocated) x × (Y .at x ≡ w) →
-          (x : ℕ) × Becomes (Calls.markStep x) (heapMarkStep w (H .elements .pointers w) H) L S
+          (x : ℕ) × Becomes (Operations.markStep x) (heapMarkStep w (H .elements .pointers w) H) L S
       go r =
           let m = rw (← (r .2), R .represents .colours (is-marking p) .gray (r .0) (r .1)) at g in
           (r .0, rw (← (r .2), R .represents .placed .pointers (r .0) (r .1)) (step-markStep-at (r .0) A p (r .1) m))
 
-  pub step-finish : (unswept : ℕ → Bool) → Audited H → H .phase ≡ mark → ((w : ℕ) → T (not (H .bits .gray w))) →
+  pub step-finish : (unswept : ℕ → Bool) → LegalColours H → H .phase ≡ mark → ((w : ℕ) → T (not (H .bits .gray w))) →
       T (not (H .bits .grayGlobals)) → ((t : ℕ) → T (not (H .bits .grayStack t))) →
-      ((w : ℕ) → T (H .allocated w) → unswept w ≡ true) → Becomes Calls.finish (heapFinish unswept H) L S
-  unfolding run
+      ((w : ℕ) → T (H .allocated w) → unswept w ≡ true) → Becomes Operations.finish (heapFinish unswept H) L S
+  unfolding perform
   step-finish unswept A p g gg gs h = record {
     layout = Y;
     allowed = (phased p, (λ x m. no-gray x (nil-or-live (R .invariant) x (R .invariant .tricolour (is-marking p) .markedKept x m))), (λ t. rw (R .represents .colours (is-marking p) .grayStack t) at (gs t)));
@@ -225,10 +227,10 @@ module _ {H : Heap} {L : Ledger} {S : State} {Y : Layout} (R : Agrees H L S Y) w
       no-gray x (inl e) = rw e (rw (R .represents .colours (is-marking p) .grayGlobals) at gg)
       no-gray x (inr l) = rw (R .represents .colours (is-marking p) .gray x l) at (g (Y .at x))
 
-  pub step-sweepStep : (q : ℕ → Bool) (E : Elements) → Audited H → H .phase ≡ sweep →
+  pub step-sweepStep : (q : ℕ → Bool) (E : Elements) → LegalColours H → H .phase ≡ sweep →
       ((w : ℕ) → T (H .allocated w) → T (q w) → H .unswept w ≡ true) →
-      ((w : ℕ) → T (cond (q w) (H .bits .marked w) (H .allocated w)) → Alike E (H .elements) w) → Becomes (Calls.sweepStep (λ x. q (Y .at x))) (heapSweep q E H) L S
-  unfolding run
+      ((w : ℕ) → T (cond (q w) (H .bits .marked w) (H .allocated w)) → Alike E (H .elements) w) → Becomes (Operations.sweepStep (λ x. q (Y .at x))) (heapSweep q E H) L S
+  unfolding perform
   step-sweepStep q E A p d c = record {
     layout = Y;
     allowed = phased p;
@@ -241,7 +243,7 @@ module _ {H : Heap} {L : Ledger} {S : State} {Y : Layout} (R : Agrees H L S Y) w
       d′ : (x : ℕ) → Live (S .allocated) x → T (q (Y .at x)) → H .unswept (Y .at x) ≡ true
       d′ x l = d (Y .at x) (R .represents .placed .on x l)
 
-  pub endCycle-allowed : H .phase ≡ sweep → ((w : ℕ) → T (H .allocated w) → H .unswept w ≡ false) → Allowed Calls.endCycle S
+  pub endCycle-allowed : H .phase ≡ sweep → ((w : ℕ) → T (H .allocated w) → H .unswept w ≡ false) → Allowed Operations.endCycle S
   endCycle-allowed p h = (phased p, λ x a. go x a (test (eqb x 0)))
     where
       go : (x : ℕ) → T (S .allocated x) → (T (eqb x 0) ⊎ T (not (eqb x 0))) → T (S .kept x)
@@ -249,9 +251,9 @@ module _ {H : Heap} {L : Ledger} {S : State} {Y : Layout} (R : Agrees H L S Y) w
       go x a (inr e) = let l : Live (S .allocated) x = (omega (arith, differ x 0 e), a) in
           is-true (S .kept x) (rw (h (Y .at x) (R .represents .placed .on x l)) at (R .represents .kept x l))
 
-  pub step-endCycle : Audited H → H .phase ≡ sweep → ((w : ℕ) → T (H .allocated w) → H .unswept w ≡ false) →
-      Becomes Calls.endCycle (heapEndCycle H) L S
-  unfolding run
+  pub step-endCycle : LegalColours H → H .phase ≡ sweep → ((w : ℕ) → T (H .allocated w) → H .unswept w ≡ false) →
+      Becomes Operations.endCycle (heapEndCycle H) L S
+  unfolding perform
   step-endCycle A p h = record {
     layout = Y;
     allowed = endCycle-allowed p h;
@@ -282,13 +284,13 @@ module _ {H : Heap} {L : Ledger} {S : State} {Y : Layout} (R : Agrees H L S Y) w
           (update-other (Y .at) (S .graph .born) w y (differ y (S .graph .born) e), update-other (Y .at) (S .graph .born) w x (omega (arith, R .invariant .allocatedBorn x a)))
           (R .last x y (l .0, a) h (omega (arith, differ y (S .graph .born) e)))
 
-  pub step-allocate : (s i p n w : ℕ) (arena : ℕ → ℕ) (E : Elements) (unswept : ℕ → Bool) → Audited H → T (H .opened s) → i < slotCount →
+  pub step-allocate : (s i p n w : ℕ) (arena : ℕ → ℕ) (E : Elements) (unswept : ℕ → Bool) → LegalColours H → T (H .opened s) → i < slotCount →
       ((v : ℕ) → T (H .allocated v) → (v + H .elements .words v ≤ w) ⊎ (w + n ≤ v)) → (p ≤ n) × (0 < n) →
       ((k : ℕ) → k < n → arena (w + k) ≡ 0) → ((v : ℕ) → ((v < w) ⊎ (w + n ≤ v)) → arena v ≡ H .arena v) →
       (E .scan w ≡ ltb 0 p) × (E .pointers w ≡ p) × (E .words w ≡ n) → ((v : ℕ) → T (H .allocated v) → Alike E (H .elements) v) →
       unswept w ≡ false → ((v : ℕ) → T (H .allocated v) → unswept v ≡ H .unswept v) →
-      Becomes (Calls.allocate s i p) (heapAllocate s i w arena E unswept H) (withSlot s i (suc (L .count)) (withRecord p n (addressOf w) L)) S
-  unfolding run setSlot birth withSlot withRecord
+      Becomes (Operations.allocate s i p) (heapAllocate s i w arena E unswept H) (withSlot s i (suc (L .count)) (withRecord p n (addressOf w) L)) S
+  unfolding perform setSlot birth withSlot withRecord
   step-allocate s i p n w arena E unswept A o h free big zeroed alone element others fresh unswepts = record {
     layout = placeRecord (S .graph .born) w n Y;
     allowed = (h, opened-too s o);
@@ -306,46 +308,46 @@ module _ {H : Heap} {L : Ledger} {S : State} {Y : Layout} (R : Agrees H L S Y) w
       other x l (inl u) = omega (arith, R .represents .placed .fits x l)
       other x l (inr u) = omega arith
 
-  pub step-idle : Becomes Calls.idle H L S
-  unfolding run
+  pub step-idle : Becomes Operations.idle H L S
+  unfolding perform
   step-idle = record { layout = Y; allowed = tt; represents = R .represents; describes = R .describes; last = R .last }
 
-  pub step-setup : {H′ : Heap} → Fresh H′ → Becomes Calls.setup H′ empty S
-  unfolding run empty
+  pub step-setup : {H′ : WordHeap} → Fresh H′ → Becomes Operations.setup H′ empty S
+  unfolding perform empty
   step-setup {H′} F = record { layout = noLayout; allowed = tt; represents = fresh-represents H′ F; describes = empty-describes; last = λ x y l. no-live x l }
 
   -- EVERY CALL on the heap is a call of the abstract heap and of the ledger
-  pub abstract-step : {e : Event} {H′ : Heap} → Step H e H′ → AbstractStep e H′ (feed e L) S
+  pub abstract-step : {e : Event} {H′ : WordHeap} → Step H e H′ → AbstractStep e H′ (feed e L) S
   unfolding feed
-  abstract-step refused = record { call = Calls.idle; effect = refl; becomes = step-idle }
-  abstract-step audit = record { call = Calls.idle; effect = refl; becomes = step-idle }
-  abstract-step (setup H′ F) = record { call = Calls.setup; effect = refl; becomes = step-setup F }
-  abstract-step (openStack s A) = record { call = Calls.resetStack s true; effect = refl; becomes = step-resetStack s true A }
-  abstract-step (closeStack s A) = record { call = Calls.resetStack s false; effect = refl; becomes = step-resetStack s false A }
-  abstract-step (allocate s i p n w ar E u A o h a b c d e f g j) = record { call = Calls.allocate s i p; effect = refl; becomes = step-allocate s i p n w ar E u A o h a b c d e f g j }
+  abstract-step refused = record { call = Operations.idle; effect = refl; becomes = step-idle }
+  abstract-step audit = record { call = Operations.idle; effect = refl; becomes = step-idle }
+  abstract-step (setup H′ F) = record { call = Operations.setup; effect = refl; becomes = step-setup F }
+  abstract-step (openStack s A) = record { call = Operations.resetStack s true; effect = refl; becomes = step-resetStack s true A }
+  abstract-step (closeStack s A) = record { call = Operations.resetStack s false; effect = refl; becomes = step-resetStack s false A }
+  abstract-step (allocate s i p n w ar E u A o h a b c d e f g j) = record { call = Operations.allocate s i p; effect = refl; becomes = step-allocate s i p n w ar E u A o h a b c d e f g j }
   abstract-step (copy s i j A o h) = record { call = _; effect = refl; becomes = step-copy s i j A o h }
   abstract-step (clear s i A o h) = record { call = _; effect = refl; becomes = step-clear s i A o h }
   abstract-step (load s i j f A o h z b) = record { call = _; effect = refl; becomes = step-load s i j f A o h z b }
   abstract-step (loadGlobal s i g A o h) = record { call = _; effect = refl; becomes = step-loadGlobal s i g A o h }
   abstract-step (store s j f k A z b) = record { call = _; effect = refl; becomes = step-store s j f k A z b }
   abstract-step (storeGlobal s g i A h) = record { call = _; effect = refl; becomes = step-storeGlobal s g i A h }
-  abstract-step (put s j f v A z b c) = record { call = Calls.idle; effect = refl; becomes = step-put s j f v A z b c }
-  abstract-step (get s j f z b c) = record { call = Calls.idle; effect = refl; becomes = step-idle }
-  abstract-step (start A p) = record { call = Calls.start; effect = refl; becomes = step-start A p }
-  abstract-step (scanStack s A p) = record { call = Calls.scanStack s; effect = refl; becomes = step-scanStack s A p }
-  abstract-step (rescanStack s p g) = record { call = Calls.idle; effect = refl; becomes = step-idle }
-  abstract-step (scanGlobals A p) = record { call = Calls.scanGlobals; effect = refl; becomes = step-scanGlobals A p }
-  abstract-step (rescanGlobals p g) = record { call = Calls.idle; effect = refl; becomes = step-idle }
-  abstract-step (markStep w A p g) = let r = step-markStep w A p g in record { call = Calls.markStep (r .0); effect = refl; becomes = r .1 }
-  abstract-step noneGray = record { call = Calls.idle; effect = refl; becomes = step-idle }
-  abstract-step (finish u A p g gg gs h) = record { call = Calls.finish; effect = refl; becomes = step-finish u A p g gg gs h }
+  abstract-step (put s j f v A z b c) = record { call = Operations.idle; effect = refl; becomes = step-put s j f v A z b c }
+  abstract-step (get s j f z b c) = record { call = Operations.idle; effect = refl; becomes = step-idle }
+  abstract-step (start A p) = record { call = Operations.start; effect = refl; becomes = step-start A p }
+  abstract-step (scanStack s A p) = record { call = Operations.scanStack s; effect = refl; becomes = step-scanStack s A p }
+  abstract-step (rescanStack s p g) = record { call = Operations.idle; effect = refl; becomes = step-idle }
+  abstract-step (scanGlobals A p) = record { call = Operations.scanGlobals; effect = refl; becomes = step-scanGlobals A p }
+  abstract-step (rescanGlobals p g) = record { call = Operations.idle; effect = refl; becomes = step-idle }
+  abstract-step (markStep w A p g) = let r = step-markStep w A p g in record { call = Operations.markStep (r .0); effect = refl; becomes = r .1 }
+  abstract-step noneGray = record { call = Operations.idle; effect = refl; becomes = step-idle }
+  abstract-step (finish u A p g gg gs h) = record { call = Operations.finish; effect = refl; becomes = step-finish u A p g gg gs h }
   abstract-step (sweepStep q E A p d c) = record { call = _; effect = refl; becomes = step-sweepStep q E A p d c }
-  abstract-step (endCycle A p h) = record { call = Calls.endCycle; effect = refl; becomes = step-endCycle A p h }
+  abstract-step (endCycle A p h) = record { call = Operations.endCycle; effect = refl; becomes = step-endCycle A p h }
 
   -- the agreement goes on
-  pub agree : {c : Call} {H′ : Heap} {L′ : Ledger} (B : Becomes c H′ L′ S) → Agrees H′ L′ (run c S) (B .layout)
-  agree {c} B = record { invariant = run-keeps c S (B .allowed) (R .invariant); represents = B .represents; describes = B .describes; last = B .last }
+  pub agree : {c : Operation} {H′ : WordHeap} {L′ : Ledger} (B : Becomes c H′ L′ S) → Agrees H′ L′ (perform c S) (B .layout)
+  agree {c} B = record { invariant = perform-keeps c S (B .allowed) (R .invariant); represents = B .represents; describes = B .describes; last = B .last }
 
-  pub after : {e : Event} {H′ : Heap} (s : Step H e H′) →
-      Agrees H′ (feed e L) (run ((abstract-step s) .call) S) ((abstract-step s) .becomes .layout)
+  pub after : {e : Event} {H′ : WordHeap} (s : Step H e H′) →
+      Agrees H′ (feed e L) (perform ((abstract-step s) .call) S) ((abstract-step s) .becomes .layout)
   after s = agree ((abstract-step s) .becomes)

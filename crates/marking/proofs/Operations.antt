@@ -6,17 +6,11 @@ use mathlib.Core.List.{List, [], _∷_}
 use Prim.Native.Nat.{ℕ, _+_, _<_}
 use lib.Dec.{T, eqb}
 use Rattle.marking.specs.Updates.{update}
+use Rattle.marking.specs.WordHeap.{Phase, off, mark, sweep, marking}
 use Rattle.marking.specs.Effect.{Effect, none, setsUp, starts, works, finishes, sweeps, ends, turnedOff}
-use Rattle.marking.specs.Graph.{slotCount, globalCount, Graph, setSlot, setField, emptyStack, birth}
-use Rattle.marking.specs.Colours.{Colours, Marked, shade, shadeAll, ungray, setGrayStack, blacken}
-
-pub data Phase : Type 0 where
-  off mark sweep : Phase
-
-abbrev pub marking : Phase → Bool
-marking off = false
-marking mark = true
-marking sweep = false
+use Rattle.model.specs.Memory.{slotCount, globalCount}
+use Rattle.marking.proofs.Graph.{Graph, setSlot, setField, emptyStack, birth}
+use Rattle.marking.proofs.Colours.{Colours, Marked, shade, shadeAll, ungray, setGrayStack, blacken}
 
 -- The abstract heap. A record is kept unless the sweep will free it: a finish keeps what is marked, and in any other phase all that is
 -- allocated is kept.
@@ -39,19 +33,19 @@ pub data Source (G : Graph) (t : ℕ) : ℕ → Type 0 where
 
 -- idle: a call that changes nothing here. assign: slot i of stack t becomes v. store: field f of node x becomes v. resetStack: stack t is opened (b
 -- true) or closed. allocate: a record of p pointer fields is born into a slot. sweepStep: the records of q are swept
-pub data Call : Type 0 where
-  idle setup : Call
-  assign : (t i v : ℕ) → Call
-  store : (t x f v : ℕ) → Call
-  resetStack : (t : ℕ) (b : Bool) → Call
-  allocate : (t i p : ℕ) → Call
-  start finish endCycle scanGlobals : Call
-  scanStack : (t : ℕ) → Call
-  markStep : (x : ℕ) → Call
-  sweepStep : (q : ℕ → Bool) → Call
+pub data Operation : Type 0 where
+  idle setup : Operation
+  assign : (t i v : ℕ) → Operation
+  store : (t x f v : ℕ) → Operation
+  resetStack : (t : ℕ) (b : Bool) → Operation
+  allocate : (t i p : ℕ) → Operation
+  start finish endCycle scanGlobals : Operation
+  scanStack : (t : ℕ) → Operation
+  markStep : (x : ℕ) → Operation
+  sweepStep : (q : ℕ → Bool) → Operation
 
 -- what a call may assume
-abbrev pub Allowed : Call → State → Type 0
+abbrev pub Allowed : Operation → State → Type 0
 Allowed idle S = Unit {0}
 Allowed setup S = Unit {0}
 Allowed (assign t i v) S = Source (S .graph) t v × (i < slotCount) × T (S .graph .opened t)
@@ -105,26 +99,26 @@ unfoldable pub markAt : ℕ → State → State
 markAt x S = recoloured (S .phase) (shadeAll (S .graph) (S .graph .field x) (S .graph .pointers x) (ungray x (S .colours))) S
 
 -- what a call does
-unfoldable pub run : Call → State → State
-run idle S = S
-run setup S = initial
-run (assign t i v) S = withGraph (setSlot t i v (S .graph)) S
-run (store t x f v) S = withGraph (setField x f v (S .graph)) (recoloured (S .phase) (barrier S (S .graph .field x f) v) S)
-run (resetStack t b) S = withGraph (emptyStack t b (S .graph)) (recoloured (S .phase) (setGrayStack t false (S .colours)) S)
-run (allocate t i p) S = record {
+unfoldable pub perform : Operation → State → State
+perform idle S = S
+perform setup S = initial
+perform (assign t i v) S = withGraph (setSlot t i v (S .graph)) S
+perform (store t x f v) S = withGraph (setField x f v (S .graph)) (recoloured (S .phase) (barrier S (S .graph .field x f) v) S)
+perform (resetStack t b) S = withGraph (emptyStack t b (S .graph)) (recoloured (S .phase) (setGrayStack t false (S .colours)) S)
+perform (allocate t i p) S = record {
   graph = setSlot t i (S .graph .born) (birth p (S .graph));
   colours = birthColours S;
   phase = S .phase;
   allocated = update (S .allocated) (S .graph .born) true;
   kept = update (S .kept) (S .graph .born) true;
 }
-run start S = recoloured mark (record { marked = λ x. eqb x 0; gray = λ x. eqb x 0; grayStack = S .graph .opened }) S
-run finish S = record { graph = S .graph; colours = uncoloured; phase = sweep; allocated = S .allocated; kept = S .colours .marked }
-run endCycle S = recoloured off (S .colours) S
-run (scanStack t) S = recoloured (S .phase) (scanColours S t) S
-run scanGlobals S = markAt 0 S
-run (markStep x) S = markAt x S
-run (sweepStep q) S = record {
+perform start S = recoloured mark (record { marked = λ x. eqb x 0; gray = λ x. eqb x 0; grayStack = S .graph .opened }) S
+perform finish S = record { graph = S .graph; colours = uncoloured; phase = sweep; allocated = S .allocated; kept = S .colours .marked }
+perform endCycle S = recoloured off (S .colours) S
+perform (scanStack t) S = recoloured (S .phase) (scanColours S t) S
+perform scanGlobals S = markAt 0 S
+perform (markStep x) S = markAt x S
+perform (sweepStep q) S = record {
   graph = S .graph;
   colours = S .colours;
   phase = S .phase;
@@ -133,39 +127,39 @@ run (sweepStep q) S = record {
 }
 
 -- a list of calls
-unfoldable pub runs : List Call → State → State
-runs [] S = S
-runs (c ∷ cs) S = runs cs (run c S)
+unfoldable pub performAll : List Operation → State → State
+performAll [] S = S
+performAll (c ∷ cs) S = performAll cs (perform c S)
 
-unfoldable pub AllAllowed : List Call → State → Type 0
+unfoldable pub AllAllowed : List Operation → State → Type 0
 AllAllowed [] S = Unit {0}
-AllAllowed (c ∷ cs) S = Allowed c S × AllAllowed cs (run c S)
+AllAllowed (c ∷ cs) S = Allowed c S × AllAllowed cs (perform c S)
 
 -- what a call does to a cycle
-abbrev pub callEffect : Call → Effect
-callEffect idle = none
-callEffect setup = setsUp
-callEffect (assign t i v) = none
-callEffect (store t x f v) = none
-callEffect (resetStack t b) = none
-callEffect (allocate t i p) = none
-callEffect start = starts
-callEffect finish = finishes
-callEffect endCycle = ends
-callEffect (scanStack t) = none
-callEffect scanGlobals = none
-callEffect (markStep x) = works
-callEffect (sweepStep q) = sweeps
+abbrev pub operationEffect : Operation → Effect
+operationEffect idle = none
+operationEffect setup = setsUp
+operationEffect (assign t i v) = none
+operationEffect (store t x f v) = none
+operationEffect (resetStack t b) = none
+operationEffect (allocate t i p) = none
+operationEffect start = starts
+operationEffect finish = finishes
+operationEffect endCycle = ends
+operationEffect (scanStack t) = none
+operationEffect scanGlobals = none
+operationEffect (markStep x) = works
+operationEffect (sweepStep q) = sweeps
 
 -- every call of a list has an effect that passes a test
-unfoldable pub EachCall : (Effect → Bool) → List Call → Type 0
-EachCall test [] = Unit {0}
-EachCall test (c ∷ cs) = T (test (callEffect c)) × EachCall test cs
+unfoldable pub EachOperation : (Effect → Bool) → List Operation → Type 0
+EachOperation test [] = Unit {0}
+EachOperation test (c ∷ cs) = T (test (operationEffect c)) × EachOperation test cs
 
 -- how often a call frees the record x, and how often a list does
-abbrev pub freedBy : ℕ → Call → State → ℕ
-freedBy x c S = turnedOff (callEffect c) (S .allocated x) ((run c S) .allocated x)
+abbrev pub freedBy : ℕ → Operation → State → ℕ
+freedBy x c S = turnedOff (operationEffect c) (S .allocated x) ((perform c S) .allocated x)
 
-unfoldable pub freedByAll : ℕ → List Call → State → ℕ
+unfoldable pub freedByAll : ℕ → List Operation → State → ℕ
 freedByAll x [] S = 0
-freedByAll x (c ∷ cs) S = freedBy x c S + freedByAll x cs (run c S)
+freedByAll x (c ∷ cs) S = freedBy x c S + freedByAll x cs (perform c S)

@@ -7,19 +7,20 @@ use Prim.Native.Nat.{ℕ, _+_, _≤_, _<_}
 use native.Mathlib.Omega.{arith}
 use lib.Dec.{T, eqb, ltb, eqb→eq, nltb→le, ltb→lt}
 use borrow.Author.Tests.{le-ltb}
-use Rattle.marking.specs.Updates.{test, of-true, of-false, differ}
-use Rattle.marking.specs.Closure.{here, next, closure-in}
-use Rattle.marking.specs.Graph.{Root, globals, inSlot, Reach}
-use Rattle.marking.specs.Calls.{State}
-use Rattle.marking.specs.Safety.{reach-kept}
-use Rattle.marking.specs.Heap.{addressOf, Heap, wordOf}
-use Rattle.marking.specs.Represents.{Layout, address, Live, address-live, word-address}
+use Rattle.marking.proofs.Updates.{test, of-true, of-false, differ}
+use Rattle.marking.proofs.Closure.{here, next, closure-in}
+use Rattle.marking.proofs.Graph.{Root, globals, inSlot, Reach}
+use Rattle.marking.proofs.Operations.{State}
+use Rattle.marking.proofs.Safety.{reach-kept}
+use Rattle.model.specs.Memory.{addressOf, wordOf}
+use Rattle.marking.specs.WordHeap.{WordHeap}
+use Rattle.marking.proofs.Represents.{Layout, address, Live, address-live, word-address}
 use Rattle.marking.specs.Ledger.{Ledger, value, word, Reachable, stack, global, field}
-use Rattle.marking.specs.Agreement.{Agrees}
-use Rattle.marking.specs.Refinement.{slot-record}
+use Rattle.marking.proofs.Agreement.{Agrees}
+use Rattle.marking.proofs.Refinement.{slot-record}
 use Rattle.marking.specs.Claim.{MatchesLedger}
 
-module _ {H : Heap} {L : Ledger} {S : State} {Y : Layout} (R : Agrees H L S Y) where
+module _ {H : WordHeap} {L : Ledger} {S : State} {Y : Layout} (R : Agrees H L S Y) where
   value-is : (x : ℕ) → x < S .graph .born → address Y x ≡ value L x
   unfolding address value
   value-is x h = go (test (eqb x 0))
@@ -99,7 +100,7 @@ module _ {H : Heap} {L : Ledger} {S : State} {Y : Layout} (R : Agrees H L S Y) w
       along x f (inr r) = rw (R .describes .pointer x f ((reaches r) .0)) (fields x f r (test (ltb f (L .pointers x))))
 
 -- what get answers
-pub got : {H : Heap} {L : Ledger} {S : State} {Y : Layout} → Agrees H L S Y → (s j f : ℕ) →
+pub got : {H : WordHeap} {L : Ledger} {S : State} {Y : Layout} → Agrees H L S Y → (s j f : ℕ) →
     0 < H .slots s j → H .elements .pointers (wordOf (H .slots s j)) ≤ f → f < H .elements .words (wordOf (H .slots s j)) →
     H .arena (wordOf (H .slots s j) + f) ≡ word L (L .slot s j) f
 unfolding word

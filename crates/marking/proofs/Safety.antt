@@ -7,11 +7,14 @@ use mathlib.Core.List.{List, [], _∷_}
 use Prim.Native.Nat.{ℕ, suc, _≤_, _<_}
 use native.Mathlib.Omega.{arith}
 use lib.Dec.{T, eqb, ltb, eqb→eq, nltb→le, ltb→lt}
-use Rattle.marking.specs.Updates.{update, cond-on, added-old, added-only, added-new, test, clash, cond-case, of-false, differ}
-use Rattle.marking.specs.Closure.{Closure, here, next, closure-in}
-use Rattle.marking.specs.Graph.{slotCount, Graph, Shape, Closed, Root, globals, inSlot, Reach, setSlot, setField, emptyStack, birth, shape-setSlot, shape-setField, shape-emptyStack, shape-birth, closed-setSlot, closed-setField, closed-emptyStack, closed-birth, emptyStack-nil}
-use Rattle.marking.specs.Colours.{Colours, Marked, TriColour, shade, shadeAll, ungray, setGrayStack, blacken, shade-grows, shade-marks, shade-keeps, setField-keeps, setSlot-keeps, emptyStack-keeps, ungray-keeps, setGrayStack-keeps, birth-keeps, shadeAll-grows, shadeAll-marks, shadeAll-keeps, shadeAll-ungray}
-use Rattle.marking.specs.Calls.{State, recoloured, barrier, birthColours, scanColours, Phase, off, mark, marking, Held, nil, slot, Source, held, field, Call, idle, setup, initial, runs, AllAllowed, assign, store, resetStack, allocate, start, finish, endCycle, scanStack, scanGlobals, markStep, sweepStep, Allowed, run, markAt}
+use Rattle.marking.specs.Updates.{update}
+use Rattle.marking.proofs.Updates.{cond-on, added-old, added-only, added-new, test, clash, cond-case, of-false, differ}
+use Rattle.marking.proofs.Closure.{Closure, here, next, closure-in}
+use Rattle.model.specs.Memory.{slotCount}
+use Rattle.marking.proofs.Graph.{Graph, Shape, Closed, Root, globals, inSlot, Reach, setSlot, setField, emptyStack, birth, shape-setSlot, shape-setField, shape-emptyStack, shape-birth, closed-setSlot, closed-setField, closed-emptyStack, closed-birth, emptyStack-nil}
+use Rattle.marking.proofs.Colours.{Colours, Marked, TriColour, shade, shadeAll, ungray, setGrayStack, blacken, shade-grows, shade-marks, shade-keeps, setField-keeps, setSlot-keeps, emptyStack-keeps, ungray-keeps, setGrayStack-keeps, birth-keeps, shadeAll-grows, shadeAll-marks, shadeAll-keeps, shadeAll-ungray}
+use Rattle.marking.proofs.Operations.{State, recoloured, barrier, birthColours, scanColours, Held, nil, slot, Source, held, field, Operation, idle, setup, initial, performAll, AllAllowed, assign, store, resetStack, allocate, start, finish, endCycle, scanStack, scanGlobals, markStep, sweepStep, Allowed, perform, markAt}
+use Rattle.marking.specs.WordHeap.{Phase, off, mark, marking}
 
 -- THE INVARIANT: kept nodes are closed and allocated, nodes that have been born are closed, allocated nodes have been born
 pub record Invariant (S : State) : Type 0 where
@@ -168,11 +171,11 @@ markAt-keeps : (x : ℕ) (S : State) → (I : Invariant S) → (T (marking (S .p
 unfolding markAt
 markAt-keeps x S I d = recoloured-keeps (S .phase) _ S I (λ m. mark-keeps (I .shape) (I .keptClosed) (I .tricolour m) x (d m))
 
-pub run-keeps : (c : Call) (S : State) → Allowed c S → Invariant S → Invariant (run c S)
-unfolding run setSlot setField emptyStack birth
-run-keeps idle S p I = I
-run-keeps setup S p I = initial-keeps
-run-keeps (assign t i v) S p I = record {
+pub perform-keeps : (c : Operation) (S : State) → Allowed c S → Invariant S → Invariant (perform c S)
+unfolding perform setSlot setField emptyStack birth
+perform-keeps idle S p I = I
+perform-keeps setup S p I = initial-keeps
+perform-keeps (assign t i v) S p I = record {
   shape = shape-setSlot t i v (p .1) (p .2) (I .shape);
   keptClosed = closed-setSlot t i v (source-closed (I .keptClosed) (p .0)) (I .keptClosed);
   keptAllocated = I .keptAllocated;
@@ -180,7 +183,7 @@ run-keeps (assign t i v) S p I = record {
   allocatedBorn = I .allocatedBorn;
   tricolour = λ m. setSlot-keeps t i v (λ d. source-scanned (I .tricolour m) d (p .0)) (I .tricolour m);
 }
-run-keeps (store t x f v) S p I = record {
+perform-keeps (store t x f v) S p I = record {
   shape = shape-setField x f v (p .2) (I .shape);
   keptClosed = closed-setField x f v (held-closed (I .keptClosed) (p .1)) (I .keptClosed);
   keptAllocated = I .keptAllocated;
@@ -192,7 +195,7 @@ run-keeps (store t x f v) S p I = record {
   where
     old : ℕ
     old = S .graph .field x f
-run-keeps (resetStack t b) S p I = record {
+perform-keeps (resetStack t b) S p I = record {
   shape = shape-emptyStack t b (I .shape);
   keptClosed = closed-emptyStack t b (I .keptClosed);
   keptAllocated = I .keptAllocated;
@@ -200,7 +203,7 @@ run-keeps (resetStack t b) S p I = record {
   allocatedBorn = I .allocatedBorn;
   tricolour = λ m. stack-keeps t b (I .tricolour m);
 }
-run-keeps (allocate t i n) S p I = record {
+perform-keeps (allocate t i n) S p I = record {
   shape = shape-setSlot t i (S .graph .born) (p .0) (birth-opened (S .graph) n t (p .1)) (shape-birth n (I .shape));
   keptClosed = closed-setSlot t i (S .graph .born) (added-new (S .kept) (S .graph .born))
       (closed-birth n (I .shape) (added-old (S .kept) (S .graph .born)) (added-only (S .kept) (S .graph .born)) (I .keptClosed));
@@ -214,14 +217,14 @@ run-keeps (allocate t i n) S p I = record {
     young : (x : ℕ) → ((x ≡ S .graph .born) ⊎ T (S .allocated x)) → x < suc (S .graph .born)
     young x (inl e) = omega arith
     young x (inr a) = omega (arith, I .allocatedBorn x a)
-run-keeps start S p I = recoloured-keeps mark _ S I (λ m. record {
+perform-keeps start S p I = recoloured-keeps mark _ S I (λ m. record {
   nil = tt;
   markedKept = λ x e. rw (eqb→eq x 0 e) (I .keptClosed .nil);
   grayMarked = λ x e. e;
   black = λ x e. inl e;
   scanned = λ t i c. rw (I .shape .closedNil t i c) (here tt);
 })
-run-keeps finish S p I = record {
+perform-keeps finish S p I = record {
   shape = I .shape;
   keptClosed = finish-closed (I .shape) (I .keptClosed) (I .tricolour (is-mark (p .0))) (p .1) (p .2);
   bornClosed = I .bornClosed;
@@ -229,11 +232,11 @@ run-keeps finish S p I = record {
   keptAllocated = λ x m. I .keptAllocated x (I .tricolour (is-mark (p .0)) .markedKept x m);
   tricolour = λ m. absurd m;
 }
-run-keeps endCycle S p I = recoloured-keeps off _ S I (λ m. absurd m)
-run-keeps (scanStack t) S p I = recoloured-keeps (S .phase) _ S I (λ m. scan-keeps S I m t)
-run-keeps scanGlobals S p I = markAt-keeps 0 S I (λ m. I .tricolour m .nil)
-run-keeps (markStep x) S p I = markAt-keeps x S I (λ m. I .tricolour m .grayMarked x (p .2))
-run-keeps (sweepStep q) S p I = record {
+perform-keeps endCycle S p I = recoloured-keeps off _ S I (λ m. absurd m)
+perform-keeps (scanStack t) S p I = recoloured-keeps (S .phase) _ S I (λ m. scan-keeps S I m t)
+perform-keeps scanGlobals S p I = markAt-keeps 0 S I (λ m. I .tricolour m .nil)
+perform-keeps (markStep x) S p I = markAt-keeps x S I (λ m. I .tricolour m .grayMarked x (p .2))
+perform-keeps (sweepStep q) S p I = record {
   shape = I .shape;
   keptClosed = I .keptClosed;
   keptAllocated = λ x k. cond-case T (q x) (S .kept x) (S .allocated x) (λ _. k) (I .keptAllocated x k);
@@ -250,14 +253,14 @@ reach-kept S I = closure-in (λ x. T (S .kept x)) root (I .keptClosed .step)
     root _ globals = I .keptClosed .nil
     root _ (inSlot t i) = I .keptClosed .root t i
 
-pub runs-keep : (cs : List Call) (S : State) → AllAllowed cs S → Invariant S → Invariant (runs cs S)
-unfolding runs AllAllowed
+pub runs-keep : (cs : List Operation) (S : State) → AllAllowed cs S → Invariant S → Invariant (performAll cs S)
+unfolding performAll AllAllowed
 runs-keep [] S p I = I
-runs-keep (c ∷ cs) S p I = runs-keep cs (run c S) (p .1) (run-keeps c S (p .0) I)
+runs-keep (c ∷ cs) S p I = runs-keep cs (perform c S) (p .1) (perform-keeps c S (p .0) I)
 
 -- SAFETY: after every list of calls, what can be reached is allocated
-pub safety : (cs : List Call) → AllAllowed cs initial → (x : ℕ) → Reach ((runs cs initial) .graph) x → T ((runs cs initial) .allocated x)
-safety cs p x r = I .keptAllocated x (reach-kept (runs cs initial) I r)
+pub safety : (cs : List Operation) → AllAllowed cs initial → (x : ℕ) → Reach ((performAll cs initial) .graph) x → T ((performAll cs initial) .allocated x)
+safety cs p x r = I .keptAllocated x (reach-kept (performAll cs initial) I r)
   where
-    I : Invariant (runs cs initial)
+    I : Invariant (performAll cs initial)
     I = runs-keep cs initial p initial-keeps

@@ -3,20 +3,17 @@ use mathlib.Core.Path.{_≡_}
 use mathlib.Core.Bool.{Bool, true, false, not, cond, _&&_, _||_}
 use Prim.Native.Nat.{ℕ, zero, suc, _+_, _*_, _-_, _/_}
 use lib.Dec.{T, eqb}
-use Rattle.marking.specs.Graph.{slotCount}
+use Rattle.model.specs.Memory.{slotCount, addressOf, wordOf}
 use Rattle.marking.specs.Updates.{update, update2}
-use Rattle.marking.specs.Calls.{Phase, off, mark, sweep, marking}
 
--- "The address of arena word w is 8192 + 8w"
-abbrev pub firstAddress : ℕ
-firstAddress = 8192
+-- the phase of a cycle
+pub data Phase : Type 0 where
+  off mark sweep : Phase
 
-abbrev pub addressOf : ℕ → ℕ
-addressOf w = firstAddress + 8 * w
-
--- the word at an address
-unfoldable pub wordOf : ℕ → ℕ
-wordOf a = (a - firstAddress) / 8
+abbrev pub marking : Phase → Bool
+marking off = false
+marking mark = true
+marking sweep = false
 
 -- the mark and gray bits; whether the globals and which stacks are gray
 pub record ColourBits : Type 0 where
@@ -33,7 +30,7 @@ pub record Elements : Type 0 where
 
 -- arena words; which words have their allocated bit; the elements; which words lie in an unswept span; and the roots. A slot, a global or a
 -- pointer word holds an address, 0 for nil
-pub record Heap : Type 0 where
+pub record WordHeap : Type 0 where
   pub arena : ℕ → ℕ
   pub allocated : ℕ → Bool
   pub elements : Elements
@@ -45,7 +42,7 @@ pub record Heap : Type 0 where
   pub phase : Phase
 
 -- what an accepted call may take from the audit
-pub record Audited (H : Heap) : Type 0 where
+pub record LegalColours (H : WordHeap) : Type 0 where
   pub markedAllocated : (w : ℕ) → T (H .bits .marked w) → T (H .allocated w)
   pub grayMarked : (w : ℕ) → T (H .bits .gray w) → T (H .bits .marked w)
   pub offUnmarked : H .phase ≡ off → (w : ℕ) → H .bits .marked w ≡ false
@@ -82,80 +79,80 @@ withGrayGlobals b B = record { marked = B .marked; gray = B .gray; grayGlobals =
 abbrev pub withGrayStack : (ℕ → Bool) → ColourBits → ColourBits
 withGrayStack s B = record { marked = B .marked; gray = B .gray; grayGlobals = B .grayGlobals; grayStack = s }
 
-abbrev pub withArena : (ℕ → ℕ) → Heap → Heap
+abbrev pub withArena : (ℕ → ℕ) → WordHeap → WordHeap
 withArena a H = record { arena = a; allocated = H .allocated; elements = H .elements; unswept = H .unswept; bits = H .bits; slots = H .slots; globals = H .globals; opened = H .opened; phase = H .phase }
 
 -- the page table and the allocated bits: which words are allocated, the elements, which words are unswept
-abbrev pub withSpans : (ℕ → Bool) → Elements → (ℕ → Bool) → Heap → Heap
+abbrev pub withSpans : (ℕ → Bool) → Elements → (ℕ → Bool) → WordHeap → WordHeap
 withSpans a E u H = record { arena = H .arena; allocated = a; elements = E; unswept = u; bits = H .bits; slots = H .slots; globals = H .globals; opened = H .opened; phase = H .phase }
 
-abbrev pub withBits : ColourBits → Heap → Heap
+abbrev pub withBits : ColourBits → WordHeap → WordHeap
 withBits B H = record { arena = H .arena; allocated = H .allocated; elements = H .elements; unswept = H .unswept; bits = B; slots = H .slots; globals = H .globals; opened = H .opened; phase = H .phase }
 
 -- slots, globals, which stacks are open
-abbrev pub withRoots : (ℕ → ℕ → ℕ) → (ℕ → ℕ) → (ℕ → Bool) → Heap → Heap
+abbrev pub withRoots : (ℕ → ℕ → ℕ) → (ℕ → ℕ) → (ℕ → Bool) → WordHeap → WordHeap
 withRoots s g o H = record { arena = H .arena; allocated = H .allocated; elements = H .elements; unswept = H .unswept; bits = H .bits; slots = s; globals = g; opened = o; phase = H .phase }
 
-abbrev pub withPhase : Phase → Heap → Heap
+abbrev pub withPhase : Phase → WordHeap → WordHeap
 withPhase p H = record { arena = H .arena; allocated = H .allocated; elements = H .elements; unswept = H .unswept; bits = H .bits; slots = H .slots; globals = H .globals; opened = H .opened; phase = p }
 
 -- THE CALLS: w is a word number, a an address
 -- slot i of stack t becomes a
-unfoldable pub heapAssign : (t i a : ℕ) → Heap → Heap
+unfoldable pub heapAssign : (t i a : ℕ) → WordHeap → WordHeap
 heapAssign t i a H = withRoots (update2 (H .slots) t i a) (H .globals) (H .opened) H
 
 -- "in the mark phase, a store to a record or a global first shades the old value, then the new"
-abbrev pub barrier : Heap → ℕ → ℕ → ColourBits
+abbrev pub barrier : WordHeap → ℕ → ℕ → ColourBits
 barrier H o a = cond (marking (H .phase)) (shadeBits (H .elements .scan) a (shadeBits (H .elements .scan) o (H .bits))) (H .bits)
 
-unfoldable pub heapStore : (w a : ℕ) → Heap → Heap
+unfoldable pub heapStore : (w a : ℕ) → WordHeap → WordHeap
 heapStore w a H = withArena (update (H .arena) w a) (withBits (barrier H (H .arena w) a) H)
 
-unfoldable pub heapStoreGlobal : (g a : ℕ) → Heap → Heap
+unfoldable pub heapStoreGlobal : (g a : ℕ) → WordHeap → WordHeap
 heapStoreGlobal g a H = withRoots (H .slots) (update (H .globals) g a) (H .opened) (withBits (barrier H (H .globals g) a) H)
 
 -- word w becomes the number n
-unfoldable pub heapPut : (w n : ℕ) → Heap → Heap
+unfoldable pub heapPut : (w n : ℕ) → WordHeap → WordHeap
 heapPut w n H = withArena (update (H .arena) w n) H
 
 abbrev pub stackScanned : ℕ → ColourBits → ColourBits
 stackScanned t B = withGrayStack (update (B .grayStack) t false) B
 
 -- stack t is opened (b true) or closed, with all slots nil
-unfoldable pub heapResetStack : (t : ℕ) (b : Bool) → Heap → Heap
+unfoldable pub heapResetStack : (t : ℕ) (b : Bool) → WordHeap → WordHeap
 heapResetStack t b H = withRoots (update (H .slots) t (λ i. 0)) (H .globals) (update (H .opened) t b)
     (withBits (stackScanned t (H .bits)) H)
 
-unfoldable pub heapStart : Heap → Heap
+unfoldable pub heapStart : WordHeap → WordHeap
 heapStart H = withPhase mark (withBits (withGrayGlobals true (withGrayStack (H .opened) (H .bits))) H)
 
-unfoldable pub heapScanStack : ℕ → Heap → Heap
+unfoldable pub heapScanStack : ℕ → WordHeap → WordHeap
 heapScanStack t H = withBits (stackScanned t (shadeAllBits (H .elements .scan) (H .slots t) slotCount (H .bits))) H
 
 -- the first n globals
-unfoldable pub heapScanGlobals : ℕ → Heap → Heap
+unfoldable pub heapScanGlobals : ℕ → WordHeap → WordHeap
 heapScanGlobals n H = withBits (shadeAllBits (H .elements .scan) (H .globals) n (withGrayGlobals false (H .bits))) H
 
 -- the record at word w, which has p pointer words
-unfoldable pub heapMarkStep : (w p : ℕ) → Heap → Heap
+unfoldable pub heapMarkStep : (w p : ℕ) → WordHeap → WordHeap
 heapMarkStep w p H = withBits
     (shadeAllBits (H .elements .scan) (λ f. H .arena (w + f)) p (withGray (update (H .bits .gray) w false) (H .bits))) H
 
 -- the words of `unswept` are then unswept
-unfoldable pub heapFinish : (unswept : ℕ → Bool) → Heap → Heap
+unfoldable pub heapFinish : (unswept : ℕ → Bool) → WordHeap → WordHeap
 heapFinish unswept H = withPhase sweep (withSpans (H .allocated) (H .elements) unswept H)
 
 -- a span with the words q is swept; the elements are then E
-unfoldable pub heapSweep : (q : ℕ → Bool) (E : Elements) → Heap → Heap
+unfoldable pub heapSweep : (q : ℕ → Bool) (E : Elements) → WordHeap → WordHeap
 heapSweep q E H =
     withSpans (λ w. cond (q w) (H .bits .marked w) (H .allocated w)) E (λ w. cond (q w) false (H .unswept w))
     (withBits (withMarked (λ w. cond (q w) false (H .bits .marked w)) (H .bits)) H)
 
-unfoldable pub heapEndCycle : Heap → Heap
+unfoldable pub heapEndCycle : WordHeap → WordHeap
 heapEndCycle H = withPhase off H
 
 -- a record is born at word w, black in the mark phase, and slot i of stack t names it; arena, elements and unswept words are then as given
-unfoldable pub heapAllocate : (t i w : ℕ) (arena : ℕ → ℕ) (E : Elements) (unswept : ℕ → Bool) → Heap → Heap
+unfoldable pub heapAllocate : (t i w : ℕ) (arena : ℕ → ℕ) (E : Elements) (unswept : ℕ → Bool) → WordHeap → WordHeap
 heapAllocate t i w arena E unswept H =
     withArena arena (withSpans (update (H .allocated) w true) E unswept
     (withBits (withMarked (cond (marking (H .phase)) (update (H .bits .marked) w true) (H .bits .marked)) (H .bits))

@@ -7,14 +7,19 @@ use mathlib.Core.List.{List, [], _∷_}
 use Prim.Native.Nat.{ℕ, zero, suc, _+_, _≤_, _<_}
 use native.Mathlib.Omega.{arith}
 use lib.Dec.{T, eqb}
-use Rattle.marking.specs.Updates.{update, update-case, update-same, cond-on, and-both, and-left, and-right, added-old}
-use Rattle.marking.specs.Effect.{inMarking, inMarking-lasting, work}
-use Rattle.marking.specs.Graph.{slotCount, Graph}
-use Rattle.marking.specs.Colours.{Colours, Marked, hasPointers, shade, shadeAll, ungray, setGrayStack, blacken}
-use Rattle.marking.specs.Calls.{State, marking, Call, idle, setup, assign, store, resetStack, allocate, start, finish, endCycle, scanStack, scanGlobals, markStep, sweepStep, Allowed, run, markAt, runs, AllAllowed, callEffect, EachCall}
-use Rattle.marking.specs.Safety.{Invariant, run-keeps, runs-keep}
-use Rattle.marking.specs.Cycle.{counted}
-use Rattle.marking.specs.Count.{some, count, count-le, count-lt, total-more}
+use Rattle.marking.specs.Updates.{update}
+use Rattle.marking.proofs.Updates.{update-case, update-same, cond-on, and-both, and-left, and-right, added-old}
+use Rattle.marking.specs.Effect.{inMarking, work}
+use Rattle.marking.proofs.Effects.{inMarking-lasting}
+use Rattle.model.specs.Memory.{slotCount}
+use Rattle.marking.proofs.Graph.{Graph}
+use Rattle.marking.proofs.Colours.{Colours, Marked, hasPointers, shade, shadeAll, ungray, setGrayStack, blacken}
+use Rattle.marking.proofs.Operations.{State, Operation, idle, setup, assign, store, resetStack, allocate, start, finish, endCycle, scanStack, scanGlobals, markStep, sweepStep, Allowed, perform, markAt, performAll, AllAllowed, operationEffect, EachOperation}
+use Rattle.marking.specs.WordHeap.{marking}
+use Rattle.marking.proofs.Safety.{Invariant, perform-keeps, runs-keep}
+use Rattle.marking.proofs.Cycle.{counted}
+use Rattle.marking.specs.Count.{some, count}
+use Rattle.marking.proofs.Count.{count-le, count-lt, total-more}
 
 abbrev pub black : Colours → ℕ → Bool
 black C x = C .marked x && not (C .gray x)
@@ -64,17 +69,17 @@ marked-black x S m = shadeAll-black (S .graph) (S .graph .field x) (S .graph .po
     (ungrayed x (S .colours) m)
 
 -- a gray record turns black
-abbrev pub Takes : Call → State → Type 0
-Takes c S = (x : ℕ) × (0 < x) × T (S .colours .gray x) × T (black ((run c S) .colours) x)
+abbrev pub Takes : Operation → State → Type 0
+Takes c S = (x : ℕ) × (0 < x) × T (S .colours .gray x) × T (black ((perform c S) .colours) x)
 
 -- what a call between a start and its finish does to the colours
-pub record Darkens (c : Call) (S : State) : Type 0 where
-  pub phase : T (marking ((run c S) .phase))
-  pub black : (y : ℕ) → T (black (S .colours) y) → T (black ((run c S) .colours) y)
-  pub takes : (work (callEffect c) ≡ 0) ⊎ ((work (callEffect c) ≡ 1) × Takes c S)
+pub record Darkens (c : Operation) (S : State) : Type 0 where
+  pub phase : T (marking ((perform c S) .phase))
+  pub black : (y : ℕ) → T (black (S .colours) y) → T (black ((perform c S) .colours) y)
+  pub takes : (work (operationEffect c) ≡ 0) ⊎ ((work (operationEffect c) ≡ 1) × Takes c S)
 
-pub darkens : (c : Call) (S : State) → T (inMarking (callEffect c)) → Allowed c S → Invariant S → T (marking (S .phase)) → Darkens c S
-unfolding run setGrayStack
+pub darkens : (c : Operation) (S : State) → T (inMarking (operationEffect c)) → Allowed c S → Invariant S → T (marking (S .phase)) → Darkens c S
+unfolding perform setGrayStack
 darkens idle S w p I m = record { phase = m; black = λ y t. t; takes = inl refl }
 darkens setup S w p I m = absurd w
 darkens (assign u i v) S w p I m = record { phase = m; black = λ y t. t; takes = inl refl }
@@ -107,24 +112,24 @@ darkens (sweepStep q) S w p I m = absurd w
 abbrev blacks : State → ℕ
 blacks S = count (black (S .colours)) (S .graph .born)
 
-darker : (c : Call) (S : State) → T (inMarking (callEffect c)) → Allowed c S → Invariant S → T (marking (S .phase)) →
-    blacks S + work (callEffect c) ≤ blacks (run c S)
+darker : (c : Operation) (S : State) → T (inMarking (operationEffect c)) → Allowed c S → Invariant S → T (marking (S .phase)) →
+    blacks S + work (operationEffect c) ≤ blacks (perform c S)
 darker c S w p I m = go (darkens c S w p I m) (darkens c S w p I m .takes)
   where
-    grows : S .graph .born ≤ (run c S) .graph .born
-    grows = counted c S (inMarking-lasting (callEffect c) w) I .grows
+    grows : S .graph .born ≤ (perform c S) .graph .born
+    grows = counted c S (inMarking-lasting (operationEffect c) w) I .grows
 
-    go : Darkens c S → ((work (callEffect c) ≡ 0) ⊎ ((work (callEffect c) ≡ 1) × Takes c S)) →
-        blacks S + work (callEffect c) ≤ blacks (run c S)
+    go : Darkens c S → ((work (operationEffect c) ≡ 0) ⊎ ((work (operationEffect c) ≡ 1) × Takes c S)) →
+        blacks S + work (operationEffect c) ≤ blacks (perform c S)
     go D (inl e) = omega (
       arith,
-      count-le (black (S .colours)) (black ((run c S) .colours)) (S .graph .born) (λ x _ _. D .black x),
-      total-more (some (black ((run c S) .colours))) (S .graph .born) ((run c S) .graph .born) grows,
+      count-le (black (S .colours)) (black ((perform c S) .colours)) (S .graph .born) (λ x _ _. D .black x),
+      total-more (some (black ((perform c S) .colours))) (S .graph .born) ((perform c S) .graph .born) grows,
     )
     go D (inr r) = omega (
       arith,
-      count-lt (black (S .colours)) (black ((run c S) .colours)) (S .graph .born) (r .1 .0) (r .1 .1) (born (r .1 .0) (r .1 .2)) (not-yet (r .1 .0) (r .1 .2)) (r .1 .3) (λ x _ _. D .black x),
-      total-more (some (black ((run c S) .colours))) (S .graph .born) ((run c S) .graph .born) grows,
+      count-lt (black (S .colours)) (black ((perform c S) .colours)) (S .graph .born) (r .1 .0) (r .1 .1) (born (r .1 .0) (r .1 .2)) (not-yet (r .1 .0) (r .1 .2)) (r .1 .3) (λ x _ _. D .black x),
+      total-more (some (black ((perform c S) .colours))) (S .graph .born) ((perform c S) .graph .born) grows,
     )
       where
         born : (x : ℕ) → T (S .colours .gray x) → x < S .graph .born
@@ -138,30 +143,30 @@ darker c S w p I m = go (darkens c S w p I m) (darkens c S w p I m .takes)
         not-yet : (x : ℕ) → T (S .colours .gray x) → T (not (black (S .colours) x))
         not-yet x g = no (S .colours .marked x) (S .colours .gray x) g
 
-unfoldable pub works : List Call → ℕ
+unfoldable pub works : List Operation → ℕ
 works [] = 0
-works (c ∷ cs) = work (callEffect c) + works cs
+works (c ∷ cs) = work (operationEffect c) + works cs
 
-all-darker : (cs : List Call) (S : State) → EachCall inMarking cs → AllAllowed cs S → Invariant S → T (marking (S .phase)) →
-    (blacks S + works cs ≤ blacks (runs cs S)) × T (marking ((runs cs S) .phase))
-unfolding works EachCall runs AllAllowed
+all-darker : (cs : List Operation) (S : State) → EachOperation inMarking cs → AllAllowed cs S → Invariant S → T (marking (S .phase)) →
+    (blacks S + works cs ≤ blacks (performAll cs S)) × T (marking ((performAll cs S) .phase))
+unfolding works EachOperation performAll AllAllowed
 all-darker [] S w p I m = (omega arith, m)
 all-darker (c ∷ cs) S w p I m =
-    let r = all-darker cs (run c S) (w .1) (p .1) (run-keeps c S (p .0) I) (darkens c S (w .0) (p .0) I m .phase) in
+    let r = all-darker cs (perform c S) (w .1) (p .1) (perform-keeps c S (p .0) I) (darkens c S (w .0) (p .0) I m .phase) in
     (omega (arith, darker c S (w .0) (p .0) I m, r .0), r .1)
 
 -- THE BOUND, of the calls from a start up to the finish
-pub work-bounded : (cs : List Call) (S : State) → EachCall inMarking cs → AllAllowed cs S → Invariant S → T (marking (S .phase)) →
-    works cs ≤ count ((runs cs S) .allocated) ((runs cs S) .graph .born)
+pub work-bounded : (cs : List Operation) (S : State) → EachOperation inMarking cs → AllAllowed cs S → Invariant S → T (marking (S .phase)) →
+    works cs ≤ count ((performAll cs S) .allocated) ((performAll cs S) .graph .born)
 work-bounded cs S w p I m = omega (
   arith,
   r .0,
-  count-le (black ((runs cs S) .colours)) ((runs cs S) .allocated) ((runs cs S) .graph .born)
-      (λ x _ _ b. J .keptAllocated x (J .tricolour (r .1) .markedKept x (and-left ((runs cs S) .colours .marked x) _ b))),
+  count-le (black ((performAll cs S) .colours)) ((performAll cs S) .allocated) ((performAll cs S) .graph .born)
+      (λ x _ _ b. J .keptAllocated x (J .tricolour (r .1) .markedKept x (and-left ((performAll cs S) .colours .marked x) _ b))),
 )
   where
-    r : (blacks S + works cs ≤ blacks (runs cs S)) × T (marking ((runs cs S) .phase))
+    r : (blacks S + works cs ≤ blacks (performAll cs S)) × T (marking ((performAll cs S) .phase))
     r = all-darker cs S w p I m
 
-    J : Invariant (runs cs S)
+    J : Invariant (performAll cs S)
     J = runs-keep cs S p I

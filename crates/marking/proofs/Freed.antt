@@ -7,19 +7,20 @@ use mathlib.Core.List.{List, [], _∷_}
 use Prim.Native.Nat.{ℕ, zero, suc, _+_, _≤_, _<_}
 use native.Mathlib.Omega.{arith}
 use lib.Dec.{T, eqb, ltb, eqb→eq, nltb→le, ltb→lt}
-use Rattle.marking.specs.Updates.{test, clash, of-true, of-false, differ, and-left, and-right, eqb-no, eqb-yes}
+use Rattle.marking.proofs.Updates.{test, clash, of-true, of-false, differ, and-left, and-right, eqb-no, eqb-yes}
 use Rattle.marking.specs.Effect.{Effect, lasting, turnedOff, asNumber, work}
-use Rattle.marking.specs.Calls.{State, Call, run, runs, initial, AllAllowed, callEffect, EachCall, freedBy, freedByAll}
-use Rattle.marking.specs.Cycle.{Counted, Fate, anew, goes-on, fate, counted}
-use Rattle.marking.specs.Work.{works}
-use Rattle.marking.specs.Heap.{Heap, wordOf, heapEndCycle}
-use Rattle.marking.specs.Represents.{Layout, Live}
+use Rattle.marking.proofs.Operations.{State, Operation, perform, performAll, initial, AllAllowed, operationEffect, EachOperation, freedBy, freedByAll}
+use Rattle.marking.proofs.Cycle.{Counted, Fate, anew, goes-on, fate, counted}
+use Rattle.marking.proofs.Work.{works}
+use Rattle.marking.specs.WordHeap.{WordHeap, heapEndCycle}
+use Rattle.model.specs.Memory.{wordOf}
+use Rattle.marking.proofs.Represents.{Layout, Live}
 use Rattle.marking.specs.Ledger.{Ledger, Event, effect, Each, feed, feedAll, empty, lastOf, lastBorn}
 use Rattle.marking.specs.Trace.{Fresh, Step, Steps, ready, more, endCycle}
-use Rattle.marking.specs.Agreement.{Agrees, noLayout, fresh-agrees}
-use Rattle.marking.specs.Refinement.{abstract-step, after}
+use Rattle.marking.proofs.Agreement.{Agrees, noLayout, fresh-agrees}
+use Rattle.marking.proofs.Refinement.{abstract-step, after}
 use Rattle.marking.specs.Claim.{isAllocated, workIn, freedIn, freedDuring, freedSince}
-use Rattle.marking.specs.Matches.{at-born, at-is}
+use Rattle.marking.proofs.Matches.{at-born, at-is}
 
 -- the record last born at an address
 lastOf-le : (at : ℕ → ℕ) (n a : ℕ) → lastOf at n a ≤ n
@@ -42,7 +43,7 @@ lastOf-is at (suc n) x h k f = go (test (eqb x (suc n))) (λ l. lastOf-is at n x
     go (inl e) ih = rw (eqb→eq x (suc n) e, eqb-yes (at (suc n)))
     go (inr e) ih = let l : x ≤ n = omega (arith, differ x (suc n) e) in rw (eqb-no (at (suc n)) (at x) (f (suc n) (omega arith) (omega arith))) (ih l)
 
-module _ {H : Heap} {L : Ledger} {S : State} {Y : Layout} (R : Agrees H L S Y) where
+module _ {H : WordHeap} {L : Ledger} {S : State} {Y : Layout} (R : Agrees H L S Y) where
   addresses-differ : (x y : ℕ) → 0 < x → x < S .graph .born → 0 < y → y < S .graph .born → Y .at y ≢ Y .at x → L .address y ≢ L .address x
   addresses-differ x y h k u v d = rw (R .describes .address x h k, R .describes .address y u v) (λ e. d (omega arith))
 
@@ -80,7 +81,7 @@ turn false true true = refl
 turn false true false = refl
 turn false false a′ = refl
 
-module _ (x : ℕ) (L : Ledger) (H H′ : Heap) where
+module _ (x : ℕ) (L : Ledger) (H H′ : WordHeap) where
   abbrev last : Bool
   last = eqb (lastBorn L (L .address x)) x
 
@@ -111,7 +112,7 @@ module _ (x : ℕ) (L : Ledger) (H H′ : Heap) where
   shown Event.endCycle p q = rw (← p, ← q) (turn last (H .allocated (wordOf (L .address x))) (H′ .allocated (wordOf (L .address x))))
 
 -- the sweep step that ends a cycle turns no allocated bit off
-pub end-frees : {H H′ : Heap} (x : ℕ) (L : Ledger) → Step H Event.endCycle H′ → freedIn x L H Event.endCycle H′ ≡ 0
+pub end-frees : {H H′ : WordHeap} (x : ℕ) (L : Ledger) → Step H Event.endCycle H′ → freedIn x L H Event.endCycle H′ ≡ 0
 unfolding freedIn heapEndCycle
 end-frees {H} x L (endCycle A p h) = go (eqb (lastBorn L (L .address x)) x) (H .allocated (wordOf (L .address x)))
   where
@@ -120,7 +121,7 @@ end-frees {H} x L (endCycle A p h) = go (eqb (lastBorn L (L .address x)) x) (H .
     go true false = refl
     go false a = refl
 
-unborn-freedIn : (x : ℕ) (L : Ledger) (H : Heap) (e : Event) (H′ : Heap) → L .count < x → freedIn x L H e H′ ≡ 0
+unborn-freedIn : (x : ℕ) (L : Ledger) (H : WordHeap) (e : Event) (H′ : WordHeap) → L .count < x → freedIn x L H e H′ ≡ 0
 unfolding freedIn
 unborn-freedIn x L H e H′ h = rw (eqb-no (lastBorn L (L .address x)) x (omega (arith, lastOf-le (L .address) (L .count) (L .address x))))
 
@@ -128,81 +129,81 @@ unborn-freedIn x L H e H′ h = rw (eqb-no (lastBorn L (L .address x)) x (omega 
 abbrev pub Tally : ℕ → ℕ → State → Type 0
 Tally x n S = (x < S .graph .born → n + asNumber (S .allocated x) ≡ 1) × (S .graph .born ≤ x → n ≡ 0)
 
-module _ {H : Heap} {L : Ledger} {S : State} {Y : Layout} (R : Agrees H L S Y) {e : Event} {H′ : Heap} (s : Step H e H′) where
-  abbrev c : Call
+module _ {H : WordHeap} {L : Ledger} {S : State} {Y : Layout} (R : Agrees H L S Y) {e : Event} {H′ : WordHeap} (s : Step H e H′) where
+  abbrev c : Operation
   c = (abstract-step R s) .call
 
-  lasting-too : T (lasting (effect e)) → T (lasting (callEffect c))
+  lasting-too : T (lasting (effect e)) → T (lasting (operationEffect c))
   lasting-too o = rw ((abstract-step R s) .effect) o
 
-  pub counts : T (lasting (effect e)) → Counted S (run c S) (λ x. freedBy x c S)
+  pub counts : T (lasting (effect e)) → Counted S (perform c S) (λ x. freedBy x c S)
   counts o = counted c S (lasting-too o) (R .invariant)
 
   pub step-frees : (x : ℕ) → 0 < x → x < S .graph .born → T (lasting (effect e)) → freedIn x L H e H′ ≡ freedBy x c S
   step-frees x h k o = rw ((abstract-step R s) .effect)
       (shown x L H H′ e (isAllocated-is R x h k) (isAllocated-is (after R s) x h (omega (arith, counts o .grows))))
 
-  tally-step : (x n : ℕ) → 0 < x → Tally x n S → Tally x (cond (lasting (effect e)) (n + freedIn x L H e H′) 0) (run c S)
+  tally-step : (x n : ℕ) → 0 < x → Tally x n S → Tally x (cond (lasting (effect e)) (n + freedIn x L H e H′) 0) (perform c S)
   tally-step x n h t = go (fate c S (R .invariant))
     where
       lasts : T (lasting (effect e)) → (T (ltb x (S .graph .born)) ⊎ T (not (ltb x (S .graph .born)))) →
-          Tally x (n + freedIn x L H e H′) (run c S)
+          Tally x (n + freedIn x L H e H′) (perform c S)
       lasts o (inl b) = let k : x < S .graph .born = ltb→lt x (S .graph .born) b in
           ((λ _. omega (arith, t .0 k, counts o .account x k, step-frees x h k o)), (λ u. absurd (omega (arith, counts o .grows))))
       lasts o (inr b) =
           let k : S .graph .born ≤ x = nltb→le x (S .graph .born) b in
           let z : freedIn x L H e H′ ≡ 0 = unborn-freedIn x L H e H′ (omega (arith, R .describes .born)) in
-          ((λ u. rw (of-true ((run c S) .allocated x) (counts o .newborn x k u)) (omega (arith, t .1 k))), (λ u. omega (arith, t .1 k)))
+          ((λ u. rw (of-true ((perform c S) .allocated x) (counts o .newborn x k u)) (omega (arith, t .1 k))), (λ u. omega (arith, t .1 k)))
 
-      go : Fate c S → Tally x (cond (lasting (effect e)) (n + freedIn x L H e H′) 0) (run c S)
+      go : Fate c S → Tally x (cond (lasting (effect e)) (n + freedIn x L H e H′) 0) (perform c S)
       go (anew i r) = rw (← ((abstract-step R s) .effect), i, r) ((λ k. absurd (omega arith)), (λ k. refl))
       go (goes-on o d) = let o′ : T (lasting (effect e)) = rw (← ((abstract-step R s) .effect)) o in rw (of-true (lasting (effect e)) o′) (lasts o′ (test (ltb x (S .graph .born))))
 
 -- what a list of calls leaves: an abstract state between the heap and the ledger, and n x, how often x was freed since the last setup
-pub record Reached (H : Heap) (L : Ledger) (n : ℕ → ℕ) : Type 0 where
+pub record Reached (H : WordHeap) (L : Ledger) (n : ℕ → ℕ) : Type 0 where
   pub state : State
   pub layout : Layout
   pub agrees : Agrees H L state layout
   pub tally : (x : ℕ) → 0 < x → Tally x (n x) state
 
-pub fresh-reached : (H : Heap) → Fresh H → Reached H empty (λ x. 0)
+pub fresh-reached : (H : WordHeap) → Fresh H → Reached H empty (λ x. 0)
 fresh-reached H F = record { state = initial; layout = noLayout; agrees = fresh-agrees H F; tally = λ x h. ((λ k. absurd (omega arith)), (λ k. refl)) }
 
-pub reached-step : {H H′ : Heap} {e : Event} (s : Step H e H′) {L : Ledger} {n : ℕ → ℕ} → Reached H L n →
+pub reached-step : {H H′ : WordHeap} {e : Event} (s : Step H e H′) {L : Ledger} {n : ℕ → ℕ} → Reached H L n →
     Reached H′ (feed e L) (λ x. cond (lasting (effect e)) (n x + freedIn x L H e H′) 0)
 reached-step s N = record {
-  state = run ((abstract-step (N .agrees) s) .call) (N .state);
+  state = perform ((abstract-step (N .agrees) s) .call) (N .state);
   layout = (abstract-step (N .agrees) s) .becomes .layout;
   agrees = after (N .agrees) s;
   tally = λ x h. tally-step (N .agrees) s x _ h (N .tally x h);
 }
 
-pub reached : {H H′ : Heap} {es : List Event} (ss : Steps H es H′) {L : Ledger} {n : ℕ → ℕ} → Reached H L n →
+pub reached : {H H′ : WordHeap} {es : List Event} (ss : Steps H es H′) {L : Ledger} {n : ℕ → ℕ} → Reached H L n →
     Reached H′ (feedAll es L) (λ x. freedSince x (n x) L ss)
 unfolding feedAll freedSince
 reached ready N = N
 reached (more s ss) N = reached ss (reached-step s N)
 
 -- the calls of the abstract heap that a list of steps is, where the effect of each passes a test that no setup passes
-pub record Within (test : Effect → Bool) (k : ℕ) (H : Heap) (L : Ledger) (S : State) (n : ℕ → ℕ) : Type 0 where
-  pub calls : List Call
+pub record Within (test : Effect → Bool) (k : ℕ) (H : WordHeap) (L : Ledger) (S : State) (n : ℕ → ℕ) : Type 0 where
+  pub calls : List Operation
   pub allowed : AllAllowed calls S
-  pub each : EachCall test calls
+  pub each : EachOperation test calls
   pub layout : Layout
-  pub agrees : Agrees H L (runs calls S) layout
+  pub agrees : Agrees H L (performAll calls S) layout
   pub work : works calls ≡ k
   pub frees : (x : ℕ) → 0 < x → x < S .graph .born → n x ≡ freedByAll x calls S
 
-pub within : (test : Effect → Bool) → ((e : Effect) → T (test e) → T (lasting e)) → {H H′ : Heap} {es : List Event} (ss : Steps H es H′) {L : Ledger} {S : State} {Y : Layout} →
+pub within : (test : Effect → Bool) → ((e : Effect) → T (test e) → T (lasting e)) → {H H′ : WordHeap} {es : List Event} (ss : Steps H es H′) {L : Ledger} {S : State} {Y : Layout} →
     Each test es → Agrees H L S Y → Within test (workIn es) H′ (feedAll es L) S (λ x. freedDuring x L ss)
-unfolding freedDuring feedAll Each workIn runs AllAllowed EachCall freedByAll works
+unfolding freedDuring feedAll Each workIn performAll AllAllowed EachOperation freedByAll works
 within test last ready {L} {S} {Y} w R = record { calls = []; allowed = tt; each = tt; layout = Y; agrees = R; work = refl; frees = λ x h k. refl }
 within test last (more {H} {H₁} {H₂} {e} {es} s ss) {L} {S} {Y} w R = go (within test last ss (w .1) (after R s))
   where
     o : T (lasting (effect e))
     o = last (effect e) (w .0)
 
-    go : Within test (workIn es) H₂ (feedAll es (feed e L)) (run ((abstract-step R s) .call) S) (λ x. freedDuring x (feed e L) ss) →
+    go : Within test (workIn es) H₂ (feedAll es (feed e L)) (perform ((abstract-step R s) .call) S) (λ x. freedDuring x (feed e L) ss) →
         Within test (work (effect e) + workIn es) H₂ (feedAll es (feed e L)) S (λ x. freedIn x L H e H₁ + freedDuring x (feed e L) ss)
     go W = record {
       calls = (abstract-step R s) .call ∷ W .calls;

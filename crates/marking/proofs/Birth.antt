@@ -5,20 +5,22 @@ use mathlib.Core.Logic.{_⊎_, inl, inr, _≢_}
 use Prim.Native.Nat.{ℕ, _+_, _≤_, _<_}
 use native.Mathlib.Omega.{arith}
 use lib.Dec.{T, ltb}
-use Rattle.marking.specs.Updates.{update, update2, update-same, update-other, added-old, added-only, added-new, test, of-true, of-false, update2-map}
-use Rattle.marking.specs.Graph.{setSlot, birth}
-use Rattle.marking.specs.Colours.{TriColour, blacken}
-use Rattle.marking.specs.Calls.{State, marking, allocate, run}
-use Rattle.marking.specs.Safety.{Invariant}
-use Rattle.marking.specs.Heap.{addressOf, Elements, Heap, Audited, Alike, heapAllocate}
-use Rattle.marking.specs.Represents.{Layout, address, Live, Placed, SameColours, SameWords, Represents, address-nil, address-live}
+use Rattle.marking.specs.Updates.{update, update2}
+use Rattle.marking.proofs.Updates.{update-same, update-other, added-old, added-only, added-new, test, of-true, of-false, update2-map}
+use Rattle.marking.proofs.Graph.{setSlot, birth}
+use Rattle.marking.proofs.Colours.{TriColour, blacken}
+use Rattle.marking.proofs.Operations.{State, allocate, perform}
+use Rattle.marking.specs.WordHeap.{marking, Elements, WordHeap, LegalColours, Alike, heapAllocate}
+use Rattle.marking.proofs.Safety.{Invariant}
+use Rattle.model.specs.Memory.{addressOf}
+use Rattle.marking.proofs.Represents.{Layout, address, Live, Placed, SameColours, SameWords, Represents, address-nil, address-live}
 
 unfoldable pub placeRecord : ℕ → ℕ → ℕ → Layout → Layout
 placeRecord x w n Y = record { at = update (Y .at) x w; words = update (Y .words) x n }
 
 -- The new record has the words w to w + n - 1, which no record has; they are 0 then, and other words stay. The elements are then E and the
 -- unswept words `unswept`: the new record's span is swept, and of other records they say what was said.
-module _ {H : Heap} {Y : Layout} {numbers : ℕ → ℕ → ℕ} {S : State} (A : Audited H) (I : Invariant S) (Z : Represents H Y numbers S)
+module _ {H : WordHeap} {Y : Layout} {numbers : ℕ → ℕ → ℕ} {S : State} (A : LegalColours H) (I : Invariant S) (Z : Represents H Y numbers S)
     (t i w n p : ℕ) (arena : ℕ → ℕ) (E : Elements) (unswept : ℕ → Bool)
     (free : (x : ℕ) → Live (S .allocated) x → (Y .at x + Y .words x ≤ w) ⊎ (w + n ≤ Y .at x))
     (big : (p ≤ n) × (0 < n))
@@ -213,8 +215,8 @@ module _ {H : Heap} {Y : Layout} {numbers : ℕ → ℕ → ℕ} {S : State} (A 
       (at-old x (off-b x k), update-other (S .kept) (S .graph .born) true x (off-b x k), unswepts x k, marked-old (marking (H .phase)) x k)
       (Z .kept x k)
 
-  pub represents-allocate : Represents (heapAllocate t i w arena E unswept H) (placeRecord (S .graph .born) w n Y) (update numbers (S .graph .born) (λ k. 0)) (run (allocate t i p) S)
-  unfolding heapAllocate run setSlot birth
+  pub represents-allocate : Represents (heapAllocate t i w arena E unswept H) (placeRecord (S .graph .born) w n Y) (update numbers (S .graph .born) (λ k. 0)) (perform (allocate t i p) S)
+  unfolding heapAllocate perform setSlot birth
   represents-allocate = record {
     placed = new-placed;
     words = new-words;

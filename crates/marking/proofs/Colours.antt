@@ -6,9 +6,10 @@ use mathlib.Core.Logic.{_⊎_, inl, inr}
 use Prim.Native.Nat.{ℕ, zero, suc, _<_}
 use native.Mathlib.Omega.{arith}
 use lib.Dec.{T, eqb, ltb, eqb→eq, eqb-refl, nltb→le}
-use Rattle.marking.specs.Updates.{update, update2, update-case, update2-case, update2-split, or-case, or-left, or-right, and-both, and-left, test, clash, added-old, added-new, added-only, differ, is-true}
-use Rattle.marking.specs.Closure.{Closure, here, closure-step}
-use Rattle.marking.specs.Graph.{Graph, Shape, setSlot, setField, emptyStack, birth}
+use Rattle.marking.specs.Updates.{update, update2}
+use Rattle.marking.proofs.Updates.{update-case, update2-case, update2-split, or-case, or-left, or-right, and-both, and-left, test, clash, added-old, added-new, added-only, differ, is-true}
+use Rattle.marking.proofs.Closure.{Closure, here, closure-step}
+use Rattle.marking.proofs.Graph.{Graph, Shape, setSlot, setField, emptyStack, birth}
 
 -- which nodes are marked and gray, and which stacks are gray. Node 0 is always marked, and gray while the globals are
 pub record Colours : Type 0 where

@@ -6,31 +6,34 @@ use mathlib.Core.List.{List}
 use Prim.Native.Nat.{ℕ, suc, _≤_, _<_}
 use native.Mathlib.Omega.{arith}
 use lib.Dec.{T, eqb}
-use Rattle.marking.specs.Updates.{of-true, of-false, eqb-yes}
-use Rattle.marking.specs.Effect.{inCycle, inMarking, isSweep, asNumber, turnedOff, inCycle-lasting, inMarking-lasting}
-use Rattle.marking.specs.Calls
-use Rattle.marking.specs.Calls.{State, marking, run, runs}
-use Rattle.marking.specs.Safety.{run-keeps}
-use Rattle.marking.specs.Count.{count, count-le}
-use Rattle.marking.specs.Work.{work-bounded}
-use Rattle.marking.specs.Cycle.{freed-once, start-born}
-use Rattle.marking.specs.Heap.{addressOf, wordOf, Heap}
-use Rattle.marking.specs.Represents.{Layout, Live}
+use Rattle.marking.proofs.Updates.{of-true, of-false, eqb-yes}
+use Rattle.marking.specs.Effect.{inCycle, inMarking, isSweep, asNumber, turnedOff}
+use Rattle.marking.proofs.Effects.{inCycle-lasting, inMarking-lasting}
+use Rattle.marking.proofs.Operations
+use Rattle.marking.proofs.Operations.{State, perform, performAll}
+use Rattle.marking.specs.WordHeap.{marking, WordHeap}
+use Rattle.marking.proofs.Safety.{perform-keeps}
+use Rattle.marking.specs.Count.{count}
+use Rattle.marking.proofs.Count.{count-le}
+use Rattle.marking.proofs.Work.{work-bounded}
+use Rattle.marking.proofs.Cycle.{freed-once, start-born}
+use Rattle.model.specs.Memory.{addressOf, wordOf}
+use Rattle.marking.proofs.Represents.{Layout, Live}
 use Rattle.marking.specs.Ledger.{Ledger, Event, effect, Each, feed, feedAll, empty, Reachable, lastBorn}
 use Rattle.marking.specs.Trace.{Step, Steps, setup, start, endCycle, get}
 use Rattle.marking.specs.Trace
-use Rattle.marking.specs.Agreement.{Agrees}
-use Rattle.marking.specs.Refinement.{after, agree, phased, step-start, step-endCycle}
-use Rattle.marking.specs.Claim.{Demand, freedIn, answer, given, expected, freedDuring, freedToEnd, freedSince, isAllocated, workIn}
-use Rattle.marking.specs.Matches.{matches, back, got, at-is}
-use Rattle.marking.specs.Freed.{Reached, reached, fresh-reached, Within, within, last-is, Tally, isAllocated-is, end-frees}
+use Rattle.marking.proofs.Agreement.{Agrees}
+use Rattle.marking.proofs.Refinement.{after, agree, phased, step-start, step-endCycle}
+use Rattle.marking.specs.Claim.{Correct, freedIn, subject, given, expected, freedDuring, freedToEnd, freedSince, isAllocated, workIn}
+use Rattle.marking.proofs.Matches.{matches, back, got, at-is}
+use Rattle.marking.proofs.Freed.{Reached, reached, fresh-reached, Within, within, last-is, Tally, isAllocated-is, end-frees}
 
-start-marks : (S : State) → T (marking ((run Calls.start S) .phase))
-unfolding run
+start-marks : (S : State) → T (marking ((perform Operations.start S) .phase))
+unfolding perform
 start-marks S = tt
 
-module _ {H : Heap} {L : Ledger} {S : State} {Y : Layout} (R : Agrees H L S Y) where
-  answers : {e : Event} {H′ : Heap} → Step H e H′ → given (answer e) H′ ≡ expected (answer e) (feed e L)
+module _ {H : WordHeap} {L : Ledger} {S : State} {Y : Layout} (R : Agrees H L S Y) where
+  answers : {e : Event} {H′ : WordHeap} → Step H e H′ → given (subject e) H′ ≡ expected (subject e) (feed e L)
   unfolding feed
   answers Trace.refused = refl
   answers Trace.audit = refl
@@ -59,13 +62,13 @@ module _ {H : Heap} {L : Ledger} {S : State} {Y : Layout} (R : Agrees H L S Y) w
   answers (endCycle A p h) = refl
 
   -- a cycle: start, calls that neither end it nor break it off, and the sweep step that ends it
-  cycle : {H₁ H₂ H₃ : Heap} {es : List Event} → Step H Event.start H₁ → (ss : Steps H₁ es H₂) → Each inCycle es →
+  cycle : {H₁ H₂ H₃ : WordHeap} {es : List Event} → Step H Event.start H₁ → (ss : Steps H₁ es H₂) → Each inCycle es →
       Step H₂ Event.endCycle H₃ →
       (x : ℕ) → 0 < x → x < S .graph .born → T (S .allocated x) → ¬ (Reachable L x) → freedToEnd x L ss H₃ ≡ 1
   cycle {H₁} {H₂} {H₃} {es} (start A p) ss w (endCycle B q f) x h k a u = go
       (within inCycle inCycle-lasting ss w (agree R (step-start R A p)))
     where
-      go : Within inCycle (workIn es) H₂ (feedAll es L) (run Calls.start S) (λ x. freedDuring x L ss) → freedToEnd x L ss H₃ ≡ 1
+      go : Within inCycle (workIn es) H₂ (feedAll es L) (perform Operations.start S) (λ x. freedDuring x L ss) → freedToEnd x L ss H₃ ≡ 1
       go W = omega (
         arith,
         W .frees x h (omega (arith, start-born S)),
@@ -75,19 +78,19 @@ module _ {H : Heap} {L : Ledger} {S : State} {Y : Layout} (R : Agrees H L S Y) w
       )
 
   -- the mark steps that do work, up to the finish
-  bound : {H₁ H₂ H₃ : Heap} {es : List Event} → Step H Event.start H₁ → (ss : Steps H₁ es H₂) → Each inMarking es →
+  bound : {H₁ H₂ H₃ : WordHeap} {es : List Event} → Step H Event.start H₁ → (ss : Steps H₁ es H₂) → Each inMarking es →
       Step H₂ Event.finish H₃ →
       workIn es ≤ count (isAllocated (feedAll es L) H₂) (suc (feedAll es L .count))
   bound {H₁} {H₂} {H₃} {es} (start A p) ss w t = go (within inMarking inMarking-lasting ss w (agree R (step-start R A p)))
     where
-      go : Within inMarking (workIn es) H₂ (feedAll es L) (run Calls.start S) (λ x. freedDuring x L ss) →
+      go : Within inMarking (workIn es) H₂ (feedAll es L) (perform Operations.start S) (λ x. freedDuring x L ss) →
           workIn es ≤ count (isAllocated (feedAll es L) H₂) (suc (feedAll es L .count))
       go W =
-          let Z = runs (W .calls) (run Calls.start S) in
+          let Z = performAll (W .calls) (perform Operations.start S) in
           rw (← (W .agrees .describes .born)) (omega (
             arith,
             W .work,
-            work-bounded (W .calls) (run Calls.start S) (W .each) (W .allowed) (run-keeps Calls.start S (phased R p) (R .invariant)) (start-marks S),
+            work-bounded (W .calls) (perform Operations.start S) (W .each) (W .allowed) (perform-keeps Operations.start S (phased R p) (R .invariant)) (start-marks S),
             count-le (Z .allocated) (isAllocated (feedAll es L) H₂) (Z .graph .born) (λ x h k a. rw (isAllocated-is (W .agrees) x h k) a),
           ))
 
@@ -110,7 +113,7 @@ module _ {H : Heap} {L : Ledger} {S : State} {Y : Layout} (R : Agrees H L S Y) w
           let b = R .invariant .allocatedBorn x (l .1) in
           (l .0, omega (arith, R .describes .born), omega (arith, rw (of-true (S .allocated x) (l .1)) at (t x (l .0) .0 b)))
 
-  freed : (e : Event) → T (isSweep (effect e)) → (H′ : Heap) (w : ℕ) → T (H .allocated w) → T (not (H′ .allocated w)) →
+  freed : (e : Event) → T (isSweep (effect e)) → (H′ : WordHeap) (w : ℕ) → T (H .allocated w) → T (not (H′ .allocated w)) →
       freedIn (lastBorn L (addressOf w)) L H e H′ ≡ 1
   unfolding freedIn
   freed e t H′ w a d = go (lastBorn L (addressOf w)) (at-bit w a)
@@ -124,8 +127,8 @@ one-true true e = tt
 one-true false e = absurd (omega arith)
 
 -- of what a list of calls has reached
-pub reached-demand : {H : Heap} {L : Ledger} {n : ℕ → ℕ} → Reached H L n → Demand H L n
-reached-demand {H} {L} {n} N = record {
+pub reached-correct : {H : WordHeap} {L : Ledger} {n : ℕ → ℕ} → Reached H L n → Correct H L n
+reached-correct {H} {L} {n} N = record {
   matches = matches (N .agrees);
   answers = λ s. answers (N .agrees) s;
   frees = frees (N .agrees) n (N .tally);
@@ -136,6 +139,6 @@ reached-demand {H} {L} {n} N = record {
 }
 
 -- THE THEOREM: after a setup and any list of calls
-pub demand-3 : {H₀ H₁ H₂ : Heap} {es : List Event} → Step H₀ Event.setup H₁ → (ss : Steps H₁ es H₂) →
-    Demand H₂ (feedAll es empty) (λ x. freedSince x 0 empty ss)
-demand-3 (setup H₁ F) ss = reached-demand (reached ss (fresh-reached H₁ F))
+pub correct : {H₀ H₁ H₂ : WordHeap} {es : List Event} → Step H₀ Event.setup H₁ → (ss : Steps H₁ es H₂) →
+    Correct H₂ (feedAll es empty) (λ x. freedSince x 0 empty ss)
+correct (setup H₁ F) ss = reached-correct (reached ss (fresh-reached H₁ F))

@@ -6,11 +6,13 @@ use mathlib.Core.Logic.{_⊎_, inl, inr, _≢_}
 use Prim.Native.Nat.{ℕ, zero, suc, _+_, _≤_, _<_}
 use native.Mathlib.Omega.{arith}
 use lib.Dec.{T, eqb, ltb, eqb→eq}
-use Rattle.marking.specs.Updates.{update, update2, test, of-true, of-false, differ, update-is, update2-is, update2-map, cond-map, eqb-no, eqb-yes}
-use Rattle.marking.specs.Graph.{Graph, setSlot, setField, emptyStack}
-use Rattle.marking.specs.Colours.{Colours, Marked, shade, shadeAll, shadeAll-grows}
-use Rattle.marking.specs.Calls.{State, marking}
-use Rattle.marking.specs.Heap.{addressOf, wordOf, ColourBits, Elements, Heap, shadeBits, shadeAllBits}
+use Rattle.marking.specs.Updates.{update, update2}
+use Rattle.marking.proofs.Updates.{test, of-true, of-false, differ, update-is, update2-is, update2-map, cond-map, eqb-no, eqb-yes}
+use Rattle.marking.proofs.Graph.{Graph, setSlot, setField, emptyStack}
+use Rattle.marking.proofs.Colours.{Colours, Marked, shade, shadeAll, shadeAll-grows}
+use Rattle.marking.proofs.Operations.{State}
+use Rattle.marking.specs.WordHeap.{marking, ColourBits, Elements, WordHeap, shadeBits, shadeAllBits}
+use Rattle.model.specs.Memory.{addressOf, wordOf}
 
 -- where each record lies: its first word, and how many it has
 pub record Layout : Type 0 where
@@ -49,7 +51,7 @@ pub record SameWords (arena : ℕ → ℕ) (slots : ℕ → ℕ → ℕ) (global
   pub number : (x f : ℕ) → Live allocated x → G .pointers x ≤ f → f < Y .words x → arena (Y .at x + f) ≡ numbers x f
 
 -- A record is kept unless its span is unswept and it is not marked. Outside the mark phase the colours do not matter
-pub record Represents (H : Heap) (Y : Layout) (numbers : ℕ → ℕ → ℕ) (S : State) : Type 0 where
+pub record Represents (H : WordHeap) (Y : Layout) (numbers : ℕ → ℕ → ℕ) (S : State) : Type 0 where
   pub placed : Placed (H .allocated) (H .elements) Y (S .graph .pointers) (S .allocated)
   pub words : SameWords (H .arena) (H .slots) (H .globals) Y numbers (S .graph) (S .allocated)
   pub colours : T (marking (S .phase)) → SameColours Y (S .allocated) (H .bits) (S .colours)
@@ -66,7 +68,6 @@ unfolding address
 address-live Y x p = rw (eqb-no x 0 (omega arith))
 
 pub word-address : (Y : Layout) (x : ℕ) → 0 < x → wordOf (address Y x) ≡ Y .at x
-unfolding wordOf
 word-address Y x p = rw (address-live Y x p) (omega arith)
 
 module _ {allocatedBit allocated : ℕ → Bool} {E : Elements} {Y : Layout} (G : Graph) (P : Placed allocatedBit E Y (G .pointers) allocated) where

@@ -5,13 +5,15 @@ use mathlib.Core.Logic.{_⊎_, inl, inr}
 use Prim.Native.Nat.{ℕ, _+_, _≤_, _<_}
 use native.Mathlib.Omega.{arith}
 use lib.Dec.{T, eqb, eqb→eq}
-use Rattle.marking.specs.Updates.{update, update2, update-same, update-other, test, cond-case, of-true, of-false, differ, is-true, update-is, eqb-no}
-use Rattle.marking.specs.Graph.{slotCount, setSlot, setField, emptyStack}
-use Rattle.marking.specs.Colours.{Marked, shade, shadeAll, ungray, setGrayStack, shade-grows}
-use Rattle.marking.specs.Calls.{State, off, mark, sweep, marking, idle, assign, store, resetStack, start, finish, endCycle, scanStack, scanGlobals, markStep, sweepStep, run, markAt}
-use Rattle.marking.specs.Safety.{Invariant}
-use Rattle.marking.specs.Heap.{ColourBits, Elements, Heap, Audited, Alike, barrier, shadeBits, shadeAllBits, heapAssign, heapStore, heapStoreGlobal, heapPut, heapResetStack, heapStart, heapScanStack, heapScanGlobals, heapMarkStep, heapFinish, heapSweep, heapEndCycle}
-use Rattle.marking.specs.Represents.{Layout, address, Live, SameColours, Represents, same-place, shade-colours, shadeAll-colours, assign-words, store-words, storeGlobal-words, put-words, emptyStack-words}
+use Rattle.marking.specs.Updates.{update, update2}
+use Rattle.marking.proofs.Updates.{update-same, update-other, test, cond-case, of-true, of-false, differ, is-true, update-is, eqb-no}
+use Rattle.model.specs.Memory.{slotCount}
+use Rattle.marking.proofs.Graph.{setSlot, setField, emptyStack}
+use Rattle.marking.proofs.Colours.{Marked, shade, shadeAll, ungray, setGrayStack, shade-grows}
+use Rattle.marking.proofs.Operations.{State, idle, assign, store, resetStack, start, finish, endCycle, scanStack, scanGlobals, markStep, sweepStep, perform, markAt}
+use Rattle.marking.specs.WordHeap.{off, mark, sweep, marking, ColourBits, Elements, WordHeap, LegalColours, Alike, barrier, shadeBits, shadeAllBits, heapAssign, heapStore, heapStoreGlobal, heapPut, heapResetStack, heapStart, heapScanStack, heapScanGlobals, heapMarkStep, heapFinish, heapSweep, heapEndCycle}
+use Rattle.marking.proofs.Safety.{Invariant}
+use Rattle.marking.proofs.Represents.{Layout, address, Live, SameColours, Represents, same-place, shade-colours, shadeAll-colours, assign-words, store-words, storeGlobal-words, put-words, emptyStack-words}
 
 -- nil, or a record that is there
 pub nil-or-live : {S : State} → Invariant S → (x : ℕ) → T (S .kept x) → (x ≡ 0) ⊎ Live (S .allocated) x
@@ -24,9 +26,9 @@ nil-or-live {S} I x k = go (test (eqb x 0))
 same-flag : {X : Type 0} (h k : ℕ → X) (i : ℕ) (v : X) → ((x : ℕ) → h x ≡ k x) → (x : ℕ) → update h i v x ≡ update k i v x
 same-flag h k i v e x = rw (update-is h i v x, update-is k i v x, e x)
 
-module _ {H : Heap} {Y : Layout} {numbers : ℕ → ℕ → ℕ} {S : State} (A : Audited H) (I : Invariant S) (Z : Represents H Y numbers S) where
-  pub represents-assign : (t i v : ℕ) → Represents (heapAssign t i (address Y v) H) Y numbers (run (assign t i v) S)
-  unfolding heapAssign run setSlot
+module _ {H : WordHeap} {Y : Layout} {numbers : ℕ → ℕ → ℕ} {S : State} (A : LegalColours H) (I : Invariant S) (Z : Represents H Y numbers S) where
+  pub represents-assign : (t i v : ℕ) → Represents (heapAssign t i (address Y v) H) Y numbers (perform (assign t i v) S)
+  unfolding heapAssign perform setSlot
   represents-assign t i v = record {
     placed = Z .placed;
     words = assign-words (S .graph) (Z .placed) (Z .words) t i v;
@@ -60,8 +62,8 @@ module _ {H : Heap} {Y : Layout} {numbers : ℕ → ℕ → ℕ} {S : State} (A 
       (shade-colours (S .graph) (Z .placed) (S .graph .field x f) (nil-or-live I (S .graph .field x f) (I .keptClosed .step x f k)) (I .tricolour m .nil) (Z .colours m))
 
   pub represents-store : (t x f v : ℕ) → Live (S .allocated) x → f < S .graph .pointers x → T (S .kept x) → T (S .kept v) →
-      Represents (heapStore (Y .at x + f) (address Y v) H) Y numbers (run (store t x f v) S)
-  unfolding heapStore run setField
+      Represents (heapStore (Y .at x + f) (address Y v) H) Y numbers (perform (store t x f v) S)
+  unfolding heapStore perform setField
   represents-store t x f v l h k n = record {
     placed = Z .placed;
     words = store-words (S .graph) (Z .placed) (Z .words) x f v l h;
@@ -72,8 +74,8 @@ module _ {H : Heap} {Y : Layout} {numbers : ℕ → ℕ → ℕ} {S : State} (A 
   }
 
   pub represents-storeGlobal : (t g v : ℕ) → T (S .kept v) →
-      Represents (heapStoreGlobal g (address Y v) H) Y numbers (run (store t 0 g v) S)
-  unfolding heapStoreGlobal run setField
+      Represents (heapStoreGlobal g (address Y v) H) Y numbers (perform (store t 0 g v) S)
+  unfolding heapStoreGlobal perform setField
   represents-storeGlobal t g v n = record {
     placed = Z .placed;
     words = storeGlobal-words (S .graph) (Z .placed) (Z .words) g v;
@@ -84,8 +86,8 @@ module _ {H : Heap} {Y : Layout} {numbers : ℕ → ℕ → ℕ} {S : State} (A 
   }
 
   pub represents-put : (x f n : ℕ) → Live (S .allocated) x → S .graph .pointers x ≤ f → f < Y .words x →
-      Represents (heapPut (Y .at x + f) n H) Y (update2 numbers x f n) (run idle S)
-  unfolding heapPut run
+      Represents (heapPut (Y .at x + f) n H) Y (update2 numbers x f n) (perform idle S)
+  unfolding heapPut perform
   represents-put x f n l h s = record {
     placed = Z .placed;
     words = put-words (S .graph) (Z .placed) (Z .words) x f n l h s;
@@ -95,8 +97,8 @@ module _ {H : Heap} {Y : Layout} {numbers : ℕ → ℕ → ℕ} {S : State} (A 
     phase = Z .phase;
   }
 
-  pub represents-resetStack : (t : ℕ) (b : Bool) → Represents (heapResetStack t b H) Y numbers (run (resetStack t b) S)
-  unfolding heapResetStack run emptyStack setGrayStack
+  pub represents-resetStack : (t : ℕ) (b : Bool) → Represents (heapResetStack t b H) Y numbers (perform (resetStack t b) S)
+  unfolding heapResetStack perform emptyStack setGrayStack
   represents-resetStack t b = record {
     placed = Z .placed;
     words = emptyStack-words (S .graph) (Z .placed) (Z .words) t b;
@@ -111,8 +113,8 @@ module _ {H : Heap} {Y : Layout} {numbers : ℕ → ℕ → ℕ} {S : State} (A 
     phase = Z .phase;
   }
 
-  pub represents-start : S .phase ≡ off → Represents (heapStart H) Y numbers (run start S)
-  unfolding heapStart run
+  pub represents-start : S .phase ≡ off → Represents (heapStart H) Y numbers (perform start S)
+  unfolding heapStart perform
   represents-start p = record {
     placed = Z .placed;
     words = Z .words;
@@ -132,8 +134,8 @@ module _ {H : Heap} {Y : Layout} {numbers : ℕ → ℕ → ℕ} {S : State} (A 
       go w (inr t) = of-false (H .bits .gray w) t
 
   pub represents-finish : (unswept : ℕ → Bool) → ((x : ℕ) → Live (S .allocated) x → unswept (Y .at x) ≡ true) → S .phase ≡ mark →
-      Represents (heapFinish unswept H) Y numbers (run finish S)
-  unfolding heapFinish run
+      Represents (heapFinish unswept H) Y numbers (perform finish S)
+  unfolding heapFinish perform
   represents-finish unswept h p = record {
     placed = Z .placed;
     words = Z .words;
@@ -143,8 +145,8 @@ module _ {H : Heap} {Y : Layout} {numbers : ℕ → ℕ → ℕ} {S : State} (A 
     phase = refl;
   }
 
-  pub represents-endCycle : Represents (heapEndCycle H) Y numbers (run endCycle S)
-  unfolding heapEndCycle run
+  pub represents-endCycle : Represents (heapEndCycle H) Y numbers (perform endCycle S)
+  unfolding heapEndCycle perform
   represents-endCycle = record {
     placed = Z .placed;
     words = Z .words;
@@ -154,8 +156,8 @@ module _ {H : Heap} {Y : Layout} {numbers : ℕ → ℕ → ℕ} {S : State} (A 
     phase = refl;
   }
 
-  pub represents-scanStack : (t : ℕ) → S .phase ≡ mark → Represents (heapScanStack t H) Y numbers (run (scanStack t) S)
-  unfolding heapScanStack run setGrayStack
+  pub represents-scanStack : (t : ℕ) → S .phase ≡ mark → Represents (heapScanStack t H) Y numbers (perform (scanStack t) S)
+  unfolding heapScanStack perform setGrayStack
   represents-scanStack t p = record {
     placed = Z .placed;
     words = Z .words;
@@ -175,8 +177,8 @@ module _ {H : Heap} {Y : Layout} {numbers : ℕ → ℕ → ℕ} {S : State} (A 
       shaded m = shadeAll-colours (S .graph) (Z .placed) (H .slots t) (S .graph .slot t) slotCount (λ i _. Z .words .slot t i)
           (λ i. nil-or-live I (S .graph .slot t i) (I .keptClosed .root t i)) (I .tricolour m .nil) (Z .colours m)
 
-  pub represents-scanGlobals : S .phase ≡ mark → Represents (heapScanGlobals (S .graph .pointers 0) H) Y numbers (run scanGlobals S)
-  unfolding heapScanGlobals run markAt ungray
+  pub represents-scanGlobals : S .phase ≡ mark → Represents (heapScanGlobals (S .graph .pointers 0) H) Y numbers (perform scanGlobals S)
+  unfolding heapScanGlobals perform markAt ungray
   represents-scanGlobals p = record {
     placed = Z .placed;
     words = Z .words;
@@ -195,8 +197,8 @@ module _ {H : Heap} {Y : Layout} {numbers : ℕ → ℕ → ℕ} {S : State} (A 
   }
 
   pub represents-markStep : (x : ℕ) → Live (S .allocated) x → Marked (S .colours) x → S .phase ≡ mark →
-      Represents (heapMarkStep (Y .at x) (S .graph .pointers x) H) Y numbers (run (markStep x) S)
-  unfolding heapMarkStep run markAt ungray
+      Represents (heapMarkStep (Y .at x) (S .graph .pointers x) H) Y numbers (perform (markStep x) S)
+  unfolding heapMarkStep perform markAt ungray
   represents-markStep x l d p = record {
     placed = Z .placed;
     words = Z .words;
@@ -248,8 +250,8 @@ module _ {H : Heap} {Y : Layout} {numbers : ℕ → ℕ → ℕ} {S : State} (A 
 
     pub represents-sweepStep : ((x : ℕ) → Live (S .allocated) x → T (cond (q (Y .at x)) (S .kept x) (S .allocated x)) → Alike E (H .elements) (Y .at x)) →
         S .phase ≡ sweep →
-        Represents (heapSweep q E H) Y numbers (run (sweepStep (λ x. q (Y .at x))) S)
-    unfolding heapSweep run
+        Represents (heapSweep q E H) Y numbers (perform (sweepStep (λ x. q (Y .at x))) S)
+    unfolding heapSweep perform
     represents-sweepStep d p = record {
       placed = record {
         on = λ x l. rw (swept-bit x (l .0, still-allocated x (l .1))) (l .1);

@@ -6,13 +6,15 @@ use mathlib.Core.Logic.{_⊎_, inl, inr, _≢_}
 use Prim.Native.Nat.{ℕ, suc, _<_}
 use native.Mathlib.Omega.{arith}
 use lib.Dec.{T, eqb, eqb→eq}
-use Rattle.marking.specs.Updates.{update, update-other, update-is, update2-is, test, of-true, of-false, differ, eqb-no}
-use Rattle.marking.specs.Graph.{globalCount, Graph, Shape, setSlot, setField, emptyStack, birth}
-use Rattle.marking.specs.Calls.{State, initial}
-use Rattle.marking.specs.Safety.{Invariant, initial-keeps}
-use Rattle.marking.specs.Heap.{addressOf, Heap}
-use Rattle.marking.specs.Represents.{Layout, address, Live, Represents}
-use Rattle.marking.specs.Birth.{placeRecord}
+use Rattle.marking.specs.Updates.{update}
+use Rattle.marking.proofs.Updates.{update-other, update-is, update2-is, test, of-true, of-false, differ, eqb-no}
+use Rattle.model.specs.Memory.{globalCount, addressOf}
+use Rattle.marking.proofs.Graph.{Graph, Shape, setSlot, setField, emptyStack, birth}
+use Rattle.marking.proofs.Operations.{State, initial}
+use Rattle.marking.proofs.Safety.{Invariant, initial-keeps}
+use Rattle.marking.specs.WordHeap.{WordHeap}
+use Rattle.marking.proofs.Represents.{Layout, address, Live, Represents}
+use Rattle.marking.proofs.Birth.{placeRecord}
 use Rattle.marking.specs.Ledger.{Ledger, empty, withSlot, withStack, withPointer, withGlobal, withNumber, withRecord}
 use Rattle.marking.specs.Trace.{Fresh}
 
@@ -33,7 +35,7 @@ abbrev pub LastThere : Layout → Graph → (ℕ → Bool) → Type 0
 LastThere Y G there = (x y : ℕ) → Live there x → x < y → y < G .born → Y .at y ≢ Y .at x
 
 -- THE AGREEMENT: the heap represents the state S, and the ledger describes it
-pub record Agrees (H : Heap) (L : Ledger) (S : State) (Y : Layout) : Type 0 where
+pub record Agrees (H : WordHeap) (L : Ledger) (S : State) (Y : Layout) : Type 0 where
   pub invariant : Invariant S
   pub represents : Represents H Y (L .number) S
   pub describes : Describes L Y (S .graph)
@@ -150,7 +152,7 @@ noLayout = record { at = λ x. 0; words = λ x. 0 }
 pub no-live : {A : Type 0} (x : ℕ) → Live (initial .allocated) x → A
 no-live x l = absurd (omega (arith, eqb→eq x 0 (l .1)))
 
-pub fresh-represents : (H : Heap) → Fresh H → Represents H noLayout (λ x f. 0) initial
+pub fresh-represents : (H : WordHeap) → Fresh H → Represents H noLayout (λ x f. 0) initial
 unfolding noLayout address
 fresh-represents H F = record {
   placed = record {
@@ -183,6 +185,6 @@ empty-describes = record {
   words = λ x. refl;
 }
 
-pub fresh-agrees : (H : Heap) → Fresh H → Agrees H empty initial noLayout
+pub fresh-agrees : (H : WordHeap) → Fresh H → Agrees H empty initial noLayout
 unfolding empty
 fresh-agrees H F = record { invariant = initial-keeps; represents = fresh-represents H F; describes = empty-describes; last = λ x y l. no-live x l }

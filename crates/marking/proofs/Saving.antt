@@ -5,11 +5,13 @@ use mathlib.Core.Bool.{Bool, true}
 use mathlib.Core.Logic.{_⊎_, inl, inr}
 use Prim.Native.Nat.{ℕ, _<_}
 use lib.Dec.{T}
-use Rattle.marking.specs.Updates.{update, update2, update2-case, update2-split, added-old, added-new, added-only, of-true}
-use Rattle.marking.specs.Closure.{Closure, here, closure-step}
-use Rattle.marking.specs.Graph.{Shape, setField}
-use Rattle.marking.specs.Colours.{Colours, Marked, shade, shadeAll, shade-grows, shade-marks, shadeAll-grows, shade-all, shadeAll-all}
-use Rattle.marking.specs.Calls.{State, marking, store, run}
+use Rattle.marking.specs.Updates.{update, update2}
+use Rattle.marking.proofs.Updates.{update2-case, update2-split, added-old, added-new, added-only, of-true}
+use Rattle.marking.proofs.Closure.{Closure, here, closure-step}
+use Rattle.marking.proofs.Graph.{Shape, setField}
+use Rattle.marking.proofs.Colours.{Colours, Marked, shade, shadeAll, shade-grows, shade-marks, shadeAll-grows, shade-all, shadeAll-all}
+use Rattle.marking.proofs.Operations.{State, store, perform}
+use Rattle.marking.specs.WordHeap.{marking}
 
 -- what the saved records K are in the mark phase
 pub record Saving (K : ℕ → Type 0) (S : State) : Type 0 where
@@ -74,8 +76,8 @@ module _ {K A : ℕ → Type 0} where
 
     -- a field changes from one shaded value to another
     pub save-store : (t x f v : ℕ) → T (marking (S .phase)) → (0 < S .graph .field x f → A (S .graph .field x f)) → (0 < v → A v) →
-        ((y : ℕ) → A y → Closure (S .graph .field) (Marked (shade (S .graph) v (shade (S .graph) (S .graph .field x f) (S .colours)))) y) → Saving (With K A) (run (store t x f v) S)
-    unfolding run setField
+        ((y : ℕ) → A y → Closure (S .graph .field) (Marked (shade (S .graph) v (shade (S .graph) (S .graph .field x f) (S .colours)))) y) → Saving (With K A) (perform (store t x f v) S)
+    unfolding perform setField
     save-store t x f v m old new inside = rw (of-true (marking (S .phase)) m) (grow S S′ Z
         (λ y z d. shade-all {P = λ (y : ℕ). 0 < y → With K A y} (S .graph) v C₁ (λ z. inr (new z))
         (shade-all {P = λ (y : ℕ). 0 < y → With K A y} (S .graph) o (S .colours) (λ z. inr (old z)) (λ y d z. inl (Z .marked y z d))) y d z)

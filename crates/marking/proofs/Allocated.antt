@@ -5,18 +5,20 @@ use mathlib.Core.Logic.{_⊎_, inl, inr, _≢_}
 use Prim.Native.Nat.{ℕ, zero, suc, _+_, _≤_, _<_}
 use native.Mathlib.Omega.{arith}
 use lib.Dec.{T, eqb}
-use Rattle.marking.specs.Updates.{update, added-old, added-new, added-only, test, differ, is-true, and-left, and-right}
+use Rattle.marking.specs.Updates.{update}
+use Rattle.marking.proofs.Updates.{added-old, added-new, added-only, test, differ, is-true, and-left, and-right}
 use Rattle.marking.specs.Effect.{asNumber}
-use Rattle.marking.specs.Count.{some, total, count, total-le, total-lt, count-same}
-use Rattle.marking.specs.Calls.{State}
-use Rattle.marking.specs.Heap.{Heap}
-use Rattle.marking.specs.Represents.{Layout, Live}
+use Rattle.marking.specs.Count.{some, total, count}
+use Rattle.marking.proofs.Count.{total-le, total-lt, count-same}
+use Rattle.marking.proofs.Operations.{State}
+use Rattle.marking.specs.WordHeap.{WordHeap}
+use Rattle.marking.proofs.Represents.{Layout, Live}
 use Rattle.marking.specs.Ledger.{Ledger}
 use Rattle.marking.specs.Claim.{isAllocated}
-use Rattle.marking.specs.Agreement.{Agrees}
-use Rattle.marking.specs.Freed.{isAllocated-is}
+use Rattle.marking.proofs.Agreement.{Agrees}
+use Rattle.marking.proofs.Freed.{isAllocated-is}
 
-module _ {H : Heap} {L : Ledger} {S : State} {Y : Layout} (R : Agrees H L S Y) where
+module _ {H : WordHeap} {L : Ledger} {S : State} {Y : Layout} (R : Agrees H L S Y) where
   -- the first words of the allocated records below k
   firsts : ℕ → ℕ → Bool
   firsts zero = λ w. false

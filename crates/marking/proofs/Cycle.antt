@@ -8,13 +8,17 @@ use mathlib.Core.List.{List, [], _∷_}
 use Prim.Native.Nat.{ℕ, _+_, _≤_, _<_}
 use native.Mathlib.Omega.{arith}
 use lib.Dec.{T, ltb, eqb→eq, nltb→le, ltb→lt}
-use Rattle.marking.specs.Updates.{update, cond-on, added-old, added-only, added-new, test, cond-case, of-true, of-false, update-other}
-use Rattle.marking.specs.Effect.{setsUp, inCycle, lasting, asNumber, inCycle-lasting}
-use Rattle.marking.specs.Closure.{here, next}
-use Rattle.marking.specs.Graph.{slotCount, Closed, globals, inSlot, Reach, setSlot, setField, emptyStack, birth, closed-setSlot, closed-setField, closed-emptyStack, closed-birth}
-use Rattle.marking.specs.Colours.{Colours, Marked, ungray, setGrayStack, blacken, shade-all, shadeAll-all}
-use Rattle.marking.specs.Calls.{State, Phase, off, mark, sweep, marking, Call, idle, setup, assign, store, resetStack, allocate, start, finish, endCycle, scanStack, scanGlobals, markStep, sweepStep, Allowed, run, markAt, initial, runs, AllAllowed, callEffect, EachCall, freedBy, freedByAll}
-use Rattle.marking.specs.Safety.{Invariant, held-closed, source-closed, finish-closed, run-keeps, runs-keep}
+use Rattle.marking.specs.Updates.{update}
+use Rattle.marking.proofs.Updates.{cond-on, added-old, added-only, added-new, test, cond-case, of-true, of-false, update-other}
+use Rattle.marking.specs.Effect.{setsUp, inCycle, lasting, asNumber}
+use Rattle.marking.proofs.Effects.{inCycle-lasting}
+use Rattle.marking.proofs.Closure.{here, next}
+use Rattle.model.specs.Memory.{slotCount}
+use Rattle.marking.proofs.Graph.{Closed, globals, inSlot, Reach, setSlot, setField, emptyStack, birth, closed-setSlot, closed-setField, closed-emptyStack, closed-birth}
+use Rattle.marking.proofs.Colours.{Colours, Marked, ungray, setGrayStack, blacken, shade-all, shadeAll-all}
+use Rattle.marking.proofs.Operations.{State, Operation, idle, setup, assign, store, resetStack, allocate, start, finish, endCycle, scanStack, scanGlobals, markStep, sweepStep, Allowed, perform, markAt, initial, performAll, AllAllowed, operationEffect, EachOperation, freedBy, freedByAll}
+use Rattle.marking.specs.WordHeap.{Phase, off, mark, sweep, marking}
+use Rattle.marking.proofs.Safety.{Invariant, held-closed, source-closed, finish-closed, perform-keeps, runs-keep}
 
 abbrev pub sweeping : Phase → Bool
 sweeping off = false
@@ -53,8 +57,8 @@ module _ {n : ℕ} {R : ℕ → Type 0} where
     keeps = K .keeps;
   }
 
-  pub cycle-keeps : (c : Call) (S : State) → T (inCycle (callEffect c)) → Allowed c S → Invariant S → InCycle n R S → InCycle n R (run c S)
-  unfolding run setSlot setField emptyStack birth setGrayStack ungray blacken
+  pub cycle-keeps : (c : Operation) (S : State) → T (inCycle (operationEffect c)) → Allowed c S → Invariant S → InCycle n R S → InCycle n R (perform c S)
+  unfolding perform setSlot setField emptyStack birth setGrayStack ungray blacken
   cycle-keeps idle S w p I K = K
   cycle-keeps setup S w p I K = absurd w
   cycle-keeps (assign t i v) S w p I K = record {
@@ -116,14 +120,14 @@ module _ {n : ℕ} {R : ℕ → Type 0} where
     keeps = K .keeps;
   }
 
-  pub cycle-runs : (cs : List Call) (S : State) → EachCall inCycle cs → AllAllowed cs S → Invariant S → InCycle n R S →
-      InCycle n R (runs cs S)
-  unfolding runs AllAllowed EachCall
+  pub cycle-runs : (cs : List Operation) (S : State) → EachOperation inCycle cs → AllAllowed cs S → Invariant S → InCycle n R S →
+      InCycle n R (performAll cs S)
+  unfolding performAll AllAllowed EachOperation
   cycle-runs [] S w p I K = K
-  cycle-runs (c ∷ cs) S w p I K = cycle-runs cs (run c S) (w .1) (p .1) (run-keeps c S (p .0) I) (cycle-keeps c S (w .0) (p .0) I K)
+  cycle-runs (c ∷ cs) S w p I K = cycle-runs cs (perform c S) (w .1) (p .1) (perform-keeps c S (p .0) I) (cycle-keeps c S (w .0) (p .0) I K)
 
-pub cycle-start : (S : State) → Invariant S → InCycle (S .graph .born) (Reach (S .graph)) (run start S)
-unfolding run
+pub cycle-start : (S : State) → Invariant S → InCycle (S .graph .born) (Reach (S .graph)) (perform start S)
+unfolding perform
 cycle-start S I = record {
   busy = tt;
   since = omega arith;
@@ -143,8 +147,8 @@ cycle-start S I = record {
         (here globals)
 
 -- from a finish on the cycle keeps what is marked
-pub cycle-finish : (S : State) → Invariant S → (p : Allowed finish S) → InCycle (S .graph .born) (Marked (S .colours)) (run finish S)
-unfolding run
+pub cycle-finish : (S : State) → Invariant S → (p : Allowed finish S) → InCycle (S .graph .born) (Marked (S .colours)) (perform finish S)
+unfolding perform
 cycle-finish S I p = record {
   busy = tt;
   since = omega arith;
@@ -181,32 +185,32 @@ count-one false true f = absurd (f tt)
 count-one false false f = refl
 
 -- a call is a setup, or its births and freeings are accounted for
-pub data Fate (c : Call) (S : State) : Type 0 where
-  anew : callEffect c ≡ setsUp → run c S ≡ initial → Fate c S
-  goes-on : T (lasting (callEffect c)) → Counted S (run c S) (λ x. freedBy x c S) → Fate c S
+pub data Fate (c : Operation) (S : State) : Type 0 where
+  anew : operationEffect c ≡ setsUp → perform c S ≡ initial → Fate c S
+  goes-on : T (lasting (operationEffect c)) → Counted S (perform c S) (λ x. freedBy x c S) → Fate c S
 
-pub fate : (c : Call) (S : State) → Invariant S → Fate c S
-unfolding run markAt setSlot setField emptyStack birth
-fate idle S I = goes-on tt (unchanged S (run idle S) refl refl)
+pub fate : (c : Operation) (S : State) → Invariant S → Fate c S
+unfolding perform markAt setSlot setField emptyStack birth
+fate idle S I = goes-on tt (unchanged S (perform idle S) refl refl)
 fate setup S I = anew refl refl
-fate (assign t i v) S I = goes-on tt (unchanged S (run (assign t i v) S) refl refl)
-fate (store t y f v) S I = goes-on tt (unchanged S (run (store t y f v) S) refl refl)
-fate (resetStack t b) S I = goes-on tt (unchanged S (run (resetStack t b) S) refl refl)
+fate (assign t i v) S I = goes-on tt (unchanged S (perform (assign t i v) S) refl refl)
+fate (store t y f v) S I = goes-on tt (unchanged S (perform (store t y f v) S) refl refl)
+fate (resetStack t b) S I = goes-on tt (unchanged S (perform (resetStack t b) S) refl refl)
 fate (allocate t i p) S I = goes-on tt (record {
   grows = omega arith;
   newborn = λ x h k. let e : x ≡ S .graph .born = omega arith in rw e (added-new (S .allocated) (S .graph .born));
   account = λ x l. rw (update-other (S .allocated) (S .graph .born) true x (omega arith)) (omega arith);
 })
-fate start S I = goes-on tt (unchanged S (run start S) refl refl)
-fate finish S I = goes-on tt (unchanged S (run finish S) refl refl)
+fate start S I = goes-on tt (unchanged S (perform start S) refl refl)
+fate finish S I = goes-on tt (unchanged S (perform finish S) refl refl)
 fate endCycle S I = goes-on tt (record {
   grows = omega arith;
   newborn = λ x h k. absurd (omega arith);
   account = λ x l. count-one (S .allocated x) (S .allocated x) (λ a. a);
 })
-fate (scanStack t) S I = goes-on tt (unchanged S (run (scanStack t) S) refl refl)
-fate scanGlobals S I = goes-on tt (unchanged S (run scanGlobals S) refl refl)
-fate (markStep y) S I = goes-on tt (unchanged S (run (markStep y) S) refl refl)
+fate (scanStack t) S I = goes-on tt (unchanged S (perform (scanStack t) S) refl refl)
+fate scanGlobals S I = goes-on tt (unchanged S (perform scanGlobals S) refl refl)
+fate (markStep y) S I = goes-on tt (unchanged S (perform (markStep y) S) refl refl)
 fate (sweepStep q) S I = goes-on tt (record {
   grows = omega arith;
   newborn = λ x h k. absurd (omega arith);
@@ -214,28 +218,28 @@ fate (sweepStep q) S I = goes-on tt (record {
       (cond-case (λ (b : Bool). T b → T (S .allocated x)) (q x) (S .kept x) (S .allocated x) (λ _ k. I .keptAllocated x k) (λ a. a));
 })
 
-pub counted : (c : Call) (S : State) → T (lasting (callEffect c)) → Invariant S → Counted S (run c S) (λ x. freedBy x c S)
+pub counted : (c : Operation) (S : State) → T (lasting (operationEffect c)) → Invariant S → Counted S (perform c S) (λ x. freedBy x c S)
 counted c S w I = go (fate c S I)
   where
-    go : Fate c S → Counted S (run c S) (λ x. freedBy x c S)
+    go : Fate c S → Counted S (perform c S) (λ x. freedBy x c S)
     go (anew e _) = absurd (rw e at w)
     go (goes-on _ d) = d
 
-accounts : (x : ℕ) (cs : List Call) (S : State) → EachCall inCycle cs → AllAllowed cs S → Invariant S → x < S .graph .born →
-    asNumber (S .allocated x) ≡ freedByAll x cs S + asNumber ((runs cs S) .allocated x)
-unfolding runs AllAllowed EachCall freedByAll
+accounts : (x : ℕ) (cs : List Operation) (S : State) → EachOperation inCycle cs → AllAllowed cs S → Invariant S → x < S .graph .born →
+    asNumber (S .allocated x) ≡ freedByAll x cs S + asNumber ((performAll cs S) .allocated x)
+unfolding performAll AllAllowed EachOperation freedByAll
 accounts x [] S w p I l = omega arith
 accounts x (c ∷ cs) S w p I l =
-    let d = counted c S (inCycle-lasting (callEffect c) (w .0)) I in
-    omega (arith, d .account x l, accounts x cs (run c S) (w .1) (p .1) (run-keeps c S (p .0) I) (omega (arith, d .grows)))
+    let d = counted c S (inCycle-lasting (operationEffect c) (w .0)) I in
+    omega (arith, d .account x l, accounts x cs (perform c S) (w .1) (p .1) (perform-keeps c S (p .0) I) (omega (arith, d .grows)))
 
 -- in the sweep phase a kept record stays kept
 record Swept (x : ℕ) (S : State) : Type 0 where
   phase : T (sweeping (S .phase))
   kept : T (S .kept x)
 
-swept-keeps : (x : ℕ) (c : Call) (S : State) → T (inCycle (callEffect c)) → Allowed c S → Swept x S → Swept x (run c S)
-unfolding run markAt
+swept-keeps : (x : ℕ) (c : Operation) (S : State) → T (inCycle (operationEffect c)) → Allowed c S → Swept x S → Swept x (perform c S)
+unfolding perform markAt
 swept-keeps x idle S w p P = P
 swept-keeps x setup S w p P = absurd w
 swept-keeps x (assign t i v) S w p P = record { phase = P .phase; kept = P .kept }
@@ -250,41 +254,41 @@ swept-keeps x scanGlobals S w p P = record { phase = P .phase; kept = P .kept }
 swept-keeps x (markStep y) S w p P = record { phase = P .phase; kept = P .kept }
 swept-keeps x (sweepStep q) S w p P = record { phase = P .phase; kept = P .kept }
 
-swept-runs : (x : ℕ) (cs : List Call) (S : State) → EachCall inCycle cs → AllAllowed cs S → Swept x S → Swept x (runs cs S)
-unfolding runs AllAllowed EachCall
+swept-runs : (x : ℕ) (cs : List Operation) (S : State) → EachOperation inCycle cs → AllAllowed cs S → Swept x S → Swept x (performAll cs S)
+unfolding performAll AllAllowed EachOperation
 swept-runs x [] S w p P = P
-swept-runs x (c ∷ cs) S w p P = swept-runs x cs (run c S) (w .1) (p .1) (swept-keeps x c S (w .0) (p .0) P)
+swept-runs x (c ∷ cs) S w p P = swept-runs x cs (perform c S) (w .1) (p .1) (swept-keeps x c S (w .0) (p .0) P)
 
 -- COMPLETENESS, of the calls bs that end a cycle from some state S of it on, and of a record x that is allocated in S
-module _ (S : State) (I : Invariant S) (bs : List Call) (w : EachCall inCycle bs) (q : AllAllowed bs S) (e : Allowed endCycle (runs bs S)) (x : ℕ) (a : T (S .allocated x)) where
-  account : asNumber (S .allocated x) ≡ freedByAll x bs S + asNumber ((runs bs S) .allocated x)
+module _ (S : State) (I : Invariant S) (bs : List Operation) (w : EachOperation inCycle bs) (q : AllAllowed bs S) (e : Allowed endCycle (performAll bs S)) (x : ℕ) (a : T (S .allocated x)) where
+  account : asNumber (S .allocated x) ≡ freedByAll x bs S + asNumber ((performAll bs S) .allocated x)
   account = accounts x bs S w q I (I .allocatedBorn x a)
 
   -- it is freed once if the cycle does not keep it
   pub freed-one : {n : ℕ} {R : ℕ → Type 0} → InCycle n R S → x < n → ¬ (R x) → freedByAll x bs S ≡ 1
-  freed-one {n} {R} K l u = go (test ((runs bs S) .allocated x)) account
+  freed-one {n} {R} K l u = go (test ((performAll bs S) .allocated x)) account
     where
-      go : (T ((runs bs S) .allocated x) ⊎ T (not ((runs bs S) .allocated x))) →
-          asNumber (S .allocated x) ≡ freedByAll x bs S + asNumber ((runs bs S) .allocated x) → freedByAll x bs S ≡ 1
+      go : (T ((performAll bs S) .allocated x) ⊎ T (not ((performAll bs S) .allocated x))) →
+          asNumber (S .allocated x) ≡ freedByAll x bs S + asNumber ((performAll bs S) .allocated x) → freedByAll x bs S ≡ 1
       go (inl t) h = absurd (u (cycle-runs bs S w q I K .keeps (rw (e .0) tt) x (e .1 x t) l))
-      go (inr t) h = let k = rw (of-true (S .allocated x) a, of-false ((runs bs S) .allocated x) t) at h in omega arith
+      go (inr t) h = let k = rw (of-true (S .allocated x) a, of-false ((performAll bs S) .allocated x) t) at h in omega arith
 
   -- and not at all if it is kept in the sweep phase
   pub freed-none : T (sweeping (S .phase)) → T (S .kept x) → freedByAll x bs S ≡ 0
   freed-none s k =
       let t = runs-keep bs S q I .keptAllocated x (swept-runs x bs S w q (record { phase = s; kept = k }) .kept) in
-      let h = rw (of-true (S .allocated x) a, of-true ((runs bs S) .allocated x) t) at account in omega arith
+      let h = rw (of-true (S .allocated x) a, of-true ((performAll bs S) .allocated x) t) at account in omega arith
 
-start-same : (S : State) (x : ℕ) → (run start S) .allocated x ≡ S .allocated x
-unfolding run
+start-same : (S : State) (x : ℕ) → (perform start S) .allocated x ≡ S .allocated x
+unfolding perform
 start-same S x = refl
 
-pub start-born : (S : State) → (run start S) .graph .born ≡ S .graph .born
-unfolding run
+pub start-born : (S : State) → (perform start S) .graph .born ≡ S .graph .born
+unfolding perform
 start-born S = refl
 
 -- from a start: what was allocated and not reachable then is freed once
-pub freed-once : (S : State) → Invariant S → (bs : List Call) → EachCall inCycle bs → Allowed start S → AllAllowed bs (run start S) →
-    Allowed endCycle (runs bs (run start S)) →
-    (x : ℕ) → x < S .graph .born → T (S .allocated x) → ¬ (Reach (S .graph) x) → freedByAll x bs (run start S) ≡ 1
-freed-once S I bs w s q e x l a u = freed-one (run start S) (run-keeps start S s I) bs w q e x (rw (start-same S x) a) (cycle-start S I) l u
+pub freed-once : (S : State) → Invariant S → (bs : List Operation) → EachOperation inCycle bs → Allowed start S → AllAllowed bs (perform start S) →
+    Allowed endCycle (performAll bs (perform start S)) →
+    (x : ℕ) → x < S .graph .born → T (S .allocated x) → ¬ (Reach (S .graph) x) → freedByAll x bs (perform start S) ≡ 1
+freed-once S I bs w s q e x l a u = freed-one (perform start S) (perform-keeps start S s I) bs w q e x (rw (start-same S x) a) (cycle-start S I) l u
