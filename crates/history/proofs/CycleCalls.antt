@@ -31,11 +31,11 @@ use Rattle.model.proofs.Spans.{IsSpan, fits}
 use Rattle.model.proofs.Effects.{start-is, scan-stack-is}
 use Rattle.model.proofs.Facts.{Audited, reference-there, not-unswept, swept-all, pointer-word}
 use Rattle.model.proofs.Checks.{passes, orElse-iff, OpenStack, open-passed, Finishes, finish-passed}
-use Rattle.history.proofs.Refusals.{given-small, orElse-small, finish-small}
-use Rattle.history.proofs.Roots.{started, started-kept, ended-kept}
-use Rattle.history.proofs.Shaded.{scan-stack-kept, scan-globals-kept, mark-kept}
-use Rattle.history.proofs.SweptTable.{swept}
-use Rattle.history.proofs.Swept.{swept-kept}
+use Rattle.keeps.proofs.Refusals.{given-small, orElse-small, finish-small}
+use Rattle.keeps.proofs.Roots.{started, started-kept, ended-kept}
+use Rattle.keeps.proofs.Shaded.{scan-stack-kept, scan-globals-kept, mark-kept}
+use Rattle.keeps.proofs.SweptTable.{swept}
+use Rattle.keeps.proofs.Swept.{swept-kept}
 use Rattle.history.proofs.Finished.{finished, unsweptTable, finish-view, finish-late, finish-kept, finish-spans, finish-bits, agreed-references}
 use Rattle.history.proofs.View.{view, lateAt, end-view, start-view}
 use Rattle.history.proofs.ViewShaded.{scan-stack-view, scan-globals-view, mark-view}

@@ -26,8 +26,8 @@ use Rattle.model.proofs.Table.{pages-length, pages-owner, pages-count, pages-ki
 use Rattle.model.proofs.Spans.{Spans, GoodEntry, Element, span-of, in-span, at-home, round}
 use Rattle.model.proofs.Facts.{Audited, Bits, References, Reference, unsweptAt, no-pointer}
 use Rattle.model.proofs.Checks.{Finishes}
-use Rattle.history.proofs.Roots.{root-at, root-other}
-use Rattle.history.proofs.Tables.{Same, Like, like, like-scan, like-words, bits-like}
+use Rattle.keeps.proofs.Roots.{root-at, root-other}
+use Rattle.keeps.proofs.Tables.{Same, Like, like, like-scan, like-words, bits-like}
 use Rattle.history.proofs.View.{view, phaseOf, lateAt, scansAt, wordsAt, runFrom, states, colours-eq, heap-eq, slots-same, globals-same, states-same}
 
 -- the table after a finish

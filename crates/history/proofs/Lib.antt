@@ -12,20 +12,12 @@
 --
 -- What a changed call has to supply again: its ..-kept, its ..-view and its ..-happens; a new call besides its clauses in specs/Ledger.antt, Steps,
 -- Runs and Theorem, and its step in the theory.
-pub mod Roots
-pub mod Shaded
-pub mod Tables
-pub mod Taken
-pub mod Allocated
-pub mod SweptTable
-pub mod Swept
 pub mod View
 pub mod ViewShaded
 pub mod Finished
 pub mod Fresh
 pub mod ViewTaken
 pub mod Stages
-pub mod Refusals
 pub mod Steps
 pub mod RecordCalls
 pub mod CycleCalls

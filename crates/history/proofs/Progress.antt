@@ -33,8 +33,8 @@ use Rattle.model.proofs.Checks.{passes, entry-passes}
 use Rattle.history.specs.Ledger.{event, onPages}
 use Rattle.history.specs.Demand.{eventOn}
 use Rattle.history.specs.Beyond.{Collects, startOf, finishOf, sweepOf}
-use Rattle.history.proofs.Roots.{root-other}
-use Rattle.history.proofs.SweptTable.{unswept-less}
+use Rattle.keeps.proofs.Roots.{root-other}
+use Rattle.keeps.proofs.SweptTable.{unswept-less}
 use Rattle.history.proofs.View.{view}
 use Rattle.history.proofs.CycleCalls.{first-unswept}
 use Rattle.history.proofs.Runs.{made, at-once}

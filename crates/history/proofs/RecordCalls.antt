@@ -27,11 +27,11 @@ use Rattle.model.proofs.Effects.{allocate-is}
 use Rattle.model.proofs.Facts.{Audited, named, reference-there, pointer-word}
 use Rattle.model.proofs.Checks.{passes, open-passed, slot-passed, slots-passed, global-passed, pointer-passed, number-passed, allocate-passed}
 use Rattle.history.specs.Ledger.{wordsOf}
-use Rattle.history.proofs.Refusals.{given-small, slot-small, slots-small, global-small, pointer-small, number-small, allocate-small}
-use Rattle.history.proofs.Roots.{Refers, slot-kept, emptied-kept}
-use Rattle.history.proofs.Shaded.{store-kept, store-global-kept, put-kept}
-use Rattle.history.proofs.Taken.{taken}
-use Rattle.history.proofs.Allocated.{choice, chosen-kept}
+use Rattle.keeps.proofs.Refusals.{given-small, slot-small, slots-small, global-small, pointer-small, number-small, allocate-small}
+use Rattle.keeps.proofs.Roots.{Refers, slot-kept, emptied-kept}
+use Rattle.keeps.proofs.Shaded.{store-kept, store-global-kept, put-kept}
+use Rattle.keeps.proofs.Taken.{taken}
+use Rattle.keeps.proofs.Allocated.{choice, chosen-kept}
 use Rattle.history.proofs.View.{view, slot-view, put-view}
 use Rattle.history.proofs.ViewShaded.{emptied-view, store-view, store-global-view}
 use Rattle.history.proofs.ViewTaken.{taken-step}
@@ -44,7 +44,7 @@ taken-now {h} F s i w n p u a b = ap Value
     (sym (rw (
       lt-ltb s 16 a,
       lt-ltb i 32 b,
-      Rattle.history.proofs.Roots.root-at F (32 * s + i) (addressOf w) (omega arith) (32 * s + i),
+      Rattle.keeps.proofs.Roots.root-at F (32 * s + i) (addressOf w) (omega arith) (32 * s + i),
       eq-eqb (32 * s + i) (32 * s + i) refl,
     )))
 

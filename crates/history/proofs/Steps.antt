@@ -77,7 +77,7 @@ unfolding view
 slot-now {h} F s i v a b = ap Value (sym (rw (
   lt-ltb s 16 a,
   lt-ltb i 32 b,
-  Rattle.history.proofs.Roots.root-at F (32 * s + i) v (omega arith) (32 * s + i),
+  Rattle.keeps.proofs.Roots.root-at F (32 * s + i) v (omega arith) (32 * s + i),
   eq-eqb (32 * s + i) (32 * s + i) refl,
 )))
 

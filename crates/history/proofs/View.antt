@@ -21,7 +21,7 @@ use Rattle.model.specs.Cycle.{scan}
 use Rattle.model.proofs.Tests.{eqb-shift}
 use Rattle.model.proofs.Words.{set-at}
 use Rattle.model.proofs.Facts.{Audited, bit, scanAt, unsweptAt}
-use Rattle.history.proofs.Roots.{root-at, root-other, started, started-at, started-low, started-state}
+use Rattle.keeps.proofs.Roots.{root-at, root-other, started, started-at, started-low, started-state}
 
 abbrev pub phaseOf : ℕ → Phase
 phaseOf n = cond (eqb n 0) off (cond (eqb n 1) mark sweep)

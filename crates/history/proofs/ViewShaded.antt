@@ -24,7 +24,7 @@ use Rattle.model.proofs.Bitmaps.{Four, samePart, part-at, part-length}
 use Rattle.model.proofs.Effects.{barrier-is}
 use Rattle.model.proofs.Facts.{Audited, bit, four, There}
 use Rattle.model.proofs.Shading.{shade-length, shade-marked, shade-gray, shade-other, all-four, all-other, all-suc, all-zero}
-use Rattle.history.proofs.Roots.{root-at, root-other, emptied-at}
+use Rattle.keeps.proofs.Roots.{root-at, root-other, emptied-at}
 use Rattle.history.proofs.View.{view, phaseOf, scansAt, wordsAt, runFrom, elementsOf, coloursOf, slotsOf, globalsOf, states, colours-eq, heap-eq, marking-is, slots-same, globals-same, states-same, state-set}
 
 -- a stack is emptied, and open afterwards (n is 1) or closed (n is 0)

@@ -24,11 +24,11 @@ use Rattle.model.proofs.Bounded.{within, within-yes, within-low, within-high, f
 use Rattle.model.proofs.Spans.{IsSpan}
 use Rattle.model.proofs.Effects.{swept-at}
 use Rattle.model.proofs.Facts.{Audited}
-use Rattle.history.proofs.Tables.{Chosen, like-scan, like-words}
-use Rattle.history.proofs.Taken.{taken, taken-a, taken-m, taken-g, taken-p, taken-word, here, clear, bare, ends}
-use Rattle.history.proofs.Allocated.{Choice}
-use Rattle.history.proofs.SweptTable.{swept}
-use Rattle.history.proofs.Swept.{late-swept, was-late, stay-like, stay-bits}
+use Rattle.keeps.proofs.Tables.{Chosen, like-scan, like-words}
+use Rattle.keeps.proofs.Taken.{taken, taken-a, taken-m, taken-g, taken-p, taken-word, here, clear, bare, ends}
+use Rattle.keeps.proofs.Allocated.{Choice}
+use Rattle.keeps.proofs.SweptTable.{swept}
+use Rattle.keeps.proofs.Swept.{late-swept, was-late, stay-like, stay-bits}
 use Rattle.history.proofs.View.{view, phaseOf, lateAt, scansAt, wordsAt, runFrom, elementsOf, colours-eq, heap-eq, marking-is, slot-set}
 
 pub run-cong : (p q : ℕ → Bool) (w n : ℕ) → ((k : ℕ) → k < n → p (w + k) ≡ q (w + k)) → runFrom p w n ≡ runFrom q w n
@@ -81,7 +81,7 @@ module _ {h₀ : Heap} {u : List ℕ} {w n p : ℕ} (F₀ : Audited h₀) (C : C
   E = elementsOf u (is pointer after)
 
   rest : (x : ℕ) → 512 ≤ x → getD (after .roots) x 0 ≡ getD (h₀ .roots) x 0
-  rest x l = Rattle.history.proofs.Roots.root-other F₀ (32 * s + i) (addressOf w) (omega arith) x (omega arith)
+  rest x l = Rattle.keeps.proofs.Roots.root-other F₀ (32 * s + i) (addressOf w) (omega arith) x (omega arith)
 
   -- the view of the result is the theory's new heap
   is-new : view after ≡ heapAllocate s i w (λ x. getD (after .arena) x 0) (elementsOf u (is pointer after)) (lateAt u) (view h₀)

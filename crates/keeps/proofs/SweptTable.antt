@@ -17,7 +17,7 @@ use Rattle.model.proofs.Table.{page-length, owner-put, count-put, kind-put, pag
 use Rattle.model.proofs.Spans.{Spans, IsSpan, GoodEntry, fits}
 use Rattle.model.proofs.Effects.{swept-table}
 use Rattle.model.proofs.Facts.{Audited}
-use Rattle.history.proofs.Tables.{Same}
+use Rattle.keeps.proofs.Tables.{Same}
 
 -- a choice of two places outside a run
 pub within-no : (b n x : ℕ) → ((x < b) ⊎ (b + n ≤ x)) → within b n x ≡ false

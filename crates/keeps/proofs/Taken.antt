@@ -19,7 +19,7 @@ use Rattle.model.proofs.Bitmaps.{samePart}
 use Rattle.model.proofs.Spans.{Spans, IsSpan, InElement, Element, span-of, in-span, spans-apart, elements-apart, element-fits, element-word, element-at, fits, whole}
 use Rattle.model.proofs.Effects.{new-length, new-at}
 use Rattle.model.proofs.Facts.{Sized, Audited, Bits, Phases, References, Reference, States, Occupied, bit, scanAt, unsweptAt, keptAt}
-use Rattle.history.proofs.Tables.{Chosen}
+use Rattle.keeps.proofs.Tables.{Chosen}
 
 -- the heap after the element of n words at word w was taken, with p pointers, into slot i of stack s
 abbrev pub taken : (s i w n p : ℕ) → Heap → Heap

@@ -21,8 +21,8 @@ use Rattle.model.proofs.Table.{pages-length}
 use Rattle.model.proofs.Spans.{Spans, IsSpan}
 use Rattle.model.proofs.Effects.{room-is, room-words}
 use Rattle.model.proofs.Facts.{Sized, Audited, Bits, Phases, References, Reference, bit, scanAt, unsweptAt, keptAt, kept-allocated}
-use Rattle.history.proofs.Tables.{Chosen, Vacant, like-scan, like-words, like-element, carve-spans, carve-bits, carve-like, carve-unswept, carve-chosen, which, new-entry, used-same}
-use Rattle.history.proofs.Taken.{taken, taken-kept}
+use Rattle.keeps.proofs.Tables.{Chosen, Vacant, like-scan, like-words, like-element, carve-spans, carve-bits, carve-like, carve-unswept, carve-chosen, which, new-entry, used-same}
+use Rattle.keeps.proofs.Taken.{taken, taken-kept}
 
 -- the element of n words at word w, in page table u, suits a record of p pointers; the words allocated before see no change
 pub record Choice (h : Heap) (u : List ℕ) (w n p : ℕ) : Type 0 where
@@ -146,7 +146,7 @@ module _ {h : Heap} (F : Audited h) {r n kind : ℕ} (Q : Vacant (h .pages) (h .
     flags = flags;
   }
     where
-      like : (v : ℕ) → T (is allocated h v) → Rattle.history.proofs.Tables.Like t u v
+      like : (v : ℕ) → T (is allocated h v) → Rattle.keeps.proofs.Tables.Like t u v
       like v a = carve-like (F .sized .table) (F .spans) Q v (F .bits .element v a .lies .used)
 
 -- "the swept span of this kind with the lowest start page that has a free element"

@@ -18,8 +18,8 @@ use Rattle.model.proofs.Bitmaps.{samePart}
 use Rattle.model.proofs.Spans.{IsSpan, Element, startIn, start-same, span-of, in-span, at-home, spans-apart, element-word, round, whole, fits}
 use Rattle.model.proofs.Effects.{swept-at, swept-length}
 use Rattle.model.proofs.Facts.{Audited, Bits, Phases, References, Reference, Occupied, bit, unsweptAt, keptAt, kept-allocated}
-use Rattle.history.proofs.SweptTable.{within-no, scaled, swept, inside, low, own, outside, gone, stays, same-out, same-left, page-out, swept-spans, table-length}
-use Rattle.history.proofs.Tables.{Like, like, like-scan, like-element, like-in, like-first}
+use Rattle.keeps.proofs.SweptTable.{within-no, scaled, swept, inside, low, own, outside, gone, stays, same-out, same-left, page-out, swept-spans, table-length}
+use Rattle.keeps.proofs.Tables.{Like, like, like-scan, like-element, like-in, like-first}
 
 module _ {h : Heap} (F : Audited h) (s : ℕ) (span : IsSpan (h .table) s) (unswept : 256 ≤ kindEntry (h .table) s) where
   abbrev P : ℕ

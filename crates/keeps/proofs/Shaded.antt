@@ -20,7 +20,7 @@ use Rattle.model.proofs.Bitmaps.{samePart, part-at, part-length, bit-inside}
 use Rattle.model.proofs.Effects.{barrier-is}
 use Rattle.model.proofs.Facts.{Audited, bit, scanAt, unsweptAt, keptAt, four, There, named, reference-there, not-unswept, pointer-word, no-pointer}
 use Rattle.model.proofs.Shading.{shade-length, shade-marked, shade-gray, shade-other}
-use Rattle.history.proofs.Roots.{Refers, global-kept, scanned-kept, globals-kept}
+use Rattle.keeps.proofs.Roots.{Refers, global-kept, scanned-kept, globals-kept}
 
 -- one value shaded in the mark phase
 module _ {h : Heap} (F : Audited h) (one : phase h ≡ 1) (v : ℕ) (r : Refers h v) where
