@@ -15,9 +15,9 @@ use Rattle.marking.specs.Trace.{Step}
 use Rattle.marking.specs.Trace
 use Rattle.marking.proofs.Agreement.{Agrees}
 use Rattle.marking.proofs.Refinement
-use Rattle.model.specs.Memory.{Heap, choose, withBits, setRoot, slot, global, state, globalsState, phase, word, words, addressOf, stateAt}
+use Rattle.model.specs.Memory.{Heap, choose, withBits, setRoot, slot, global, state, globalsState, phase, word, words, addressOf, stateAt, stackCount, slotCount, globalCount, firstGlobal, globalsStateAt, phaseAt, pageWords}
 use Rattle.model.specs.Bitmaps.{allocated, gray, is}
-use Rattle.model.specs.Spans.{owner, pageCount, kindEntry, startsSpan, isUnswept, spanOf, kept}
+use Rattle.model.specs.Spans.{owner, pageCount, kindEntry, startsSpan, isUnswept, spanOf, kept, unsweptFlag}
 use Rattle.model.specs.Answers.{_orElse_}
 use Rattle.model.specs.Checks.{phaseRefusal, openRefusal}
 use Rattle.model.specs.Shading.{shadeCount}
@@ -45,14 +45,14 @@ use Rattle.history.proofs.Steps.{Accepts, Happens, by-refusal, audit-vi
 -- what the view says of gray
 not-gray : (h : Heap) (s : ℕ) → eqb (state h s) 2 ≡ false → T (not (view h .bits .grayStack s))
 unfolding view
-not-gray h s e = rw (e, and-false (ltb s 16)) tt
+not-gray h s e = rw (e, and-false (ltb s stackCount)) tt
 
-stacks-not-gray : (h : Heap) (s : ℕ) → (s < 16 → state h s ≢ 2) → T (not (view h .bits .grayStack s))
+stacks-not-gray : (h : Heap) (s : ℕ) → (s < stackCount → state h s ≢ 2) → T (not (view h .bits .grayStack s))
 unfolding view
-stacks-not-gray h s f = go (ltb s 16) refl
+stacks-not-gray h s f = go (ltb s stackCount) refl
   where
-    go : (b : Bool) → ltb s 16 ≡ b → T (not (b && eqb (state h s) 2))
-    go true e = rw (ne-eqb (state h s) 2 (f (ltb-true s 16 e))) tt
+    go : (b : Bool) → ltb s stackCount ≡ b → T (not (b && eqb (state h s) 2))
+    go true e = rw (ne-eqb (state h s) 2 (f (ltb-true s stackCount e))) tt
     go false e = tt
 
 globals-not-gray : (h : Heap) → eqb (globalsState h) 2 ≡ false → T (not (view h .bits .grayGlobals))
@@ -68,7 +68,7 @@ unfolding view
 see-not-gray h w e = rw e tt
 
 -- .. of the pages of an allocated word
-see-used : {h : Heap} → Audited h → (w : ℕ) → T (view h .allocated w) → 0 < owner (h .table) (w / 1024)
+see-used : {h : Heap} → Audited h → (w : ℕ) → T (view h .allocated w) → 0 < owner (h .table) (w / pageWords)
 unfolding view
 see-used F w a = F .bits .element w a .lies .used
 
@@ -77,20 +77,20 @@ first-gray : (h : Heap) → firstGray h < words h → T (is gray h (firstGray h)
 unfolding firstGray
 first-gray h l = is-true _ (first-props (words h) (is gray h) .holds l)
 
-pub first-unswept : (P : ℕ) (t : List ℕ) → firstUnswept P t < P → IsSpan t (firstUnswept P t) × (256 ≤ kindEntry t (firstUnswept P t))
+pub first-unswept : (P : ℕ) (t : List ℕ) → firstUnswept P t < P → IsSpan t (firstUnswept P t) × (unsweptFlag ≤ kindEntry t (firstUnswept P t))
 unfolding firstUnswept
 first-unswept P t l = simp tests at (is-true (startsSpan t (firstUnswept P t) && isUnswept t (firstUnswept P t)) (first-props P (λ s. startsSpan t s && isUnswept t s) .holds l))
 
-none-unswept : {h : Heap} → Audited h → h .pages ≤ firstUnswept (h .pages) (h .table) → (s : ℕ) → IsSpan (h .table) s → kindEntry (h .table) s < 256
+none-unswept : {h : Heap} → Audited h → h .pages ≤ firstUnswept (h .pages) (h .table) → (s : ℕ) → IsSpan (h .table) s → kindEntry (h .table) s < unsweptFlag
 unfolding firstUnswept
 none-unswept {h} F l s i =
     let f = first-props (h .pages) (λ s. startsSpan (h .table) s && isUnswept (h .table) s) in
     let b = f .before s (omega (arith, F .spans .inside s i, fits (F .spans) s i)) in
-    leb-false 256 (kindEntry (h .table) s) (rw (eq-eqb (owner (h .table) s) (s + 1) i) at b)
+    leb-false unsweptFlag (kindEntry (h .table) s) (rw (eq-eqb (owner (h .table) s) (s + 1) i) at b)
 
-see-swept : {h : Heap} → Audited h → ((s : ℕ) → IsSpan (h .table) s → kindEntry (h .table) s < 256) → (w : ℕ) → view h .unswept w ≡ false
+see-swept : {h : Heap} → Audited h → ((s : ℕ) → IsSpan (h .table) s → kindEntry (h .table) s < unsweptFlag) → (w : ℕ) → view h .unswept w ≡ false
 unfolding view lateAt
-see-swept {h} F n w = rw (swept-all (F .spans) n (spanOf (h .table) w)) (and-false (not (Rattle.model.specs.Spans.isFree (h .table) (w / 1024))))
+see-swept {h} F n w = rw (swept-all (F .spans) n (spanOf (h .table) w)) (and-false (not (Rattle.model.specs.Spans.isFree (h .table) (w / pageWords))))
 
 -- the calls of a cycle, on a heap that passes the audit
 module _ {h : Heap} (F : Audited h) where
@@ -107,17 +107,17 @@ module _ {h : Heap} (F : Audited h) where
   pub scan-stack-happens : (s : ℕ) → let o = scanStack h s in Happens h (ScanStack s) (o .answer) (o .heap)
   scan-stack-happens s = rw (scan-stack-is h s) (
       by-refusal F (ScanStack s) (phaseRefusal h 1 orElse openRefusal h s) (orElse-small _ _ (given-small 2 _ (omega arith)) (given-small 3 _ (omega arith)))
-      (Value (cond (eqb (state h s) 2) count 0)) (choose (eqb (state h s) 2) (scan 32 (slot h s) (stateAt s) h) h) refl
+      (Value (cond (eqb (state h s) 2) count 0)) (choose (eqb (state h s) 2) (scan slotCount (slot h s) (stateAt s) h) h) refl
       (λ e. let x = orElse-iff (phaseRefusal h 1) (openRefusal h s) .0 e in go (simp passes at (x .0)) (open-passed h s (x .1)) (eqb (state h s) 2) refl))
     where
       count : ℕ
-      count = shadeCount (h .pages) (h .table) 32 (slot h s) (h .bits)
+      count = shadeCount (h .pages) (h .table) slotCount (slot h s) (h .bits)
 
       go : phase h ≡ 1 → OpenStack h s → (b : Bool) → eqb (state h s) 2 ≡ b →
-          Accepts h (ScanStack s) (Value (cond b count 0)) (choose b (scan 32 (slot h s) (stateAt s) h) h)
+          Accepts h (ScanStack s) (Value (cond b count 0)) (choose b (scan slotCount (slot h s) (stateAt s) h) h)
       go one o true e = record {
         step = rw (scan-stack-view F s (o .below) (ne-eqb (state h s) 0 (o .isOpen))
-            (λ i l. reference-there (F .bits) (slot h s i) (F .references .root (32 * s + i) (omega (arith, o .below)))))
+            (λ i l. reference-there (F .bits) (slot h s i) (F .references .root (slotCount * s + i) (omega (arith, o .below)))))
             (Trace.Step.scanStack s (audit-view F) (see-phase h one));
         audited = scan-stack-kept F one s (o .below) (o .isOpen);
         said = tt;
@@ -129,15 +129,15 @@ module _ {h : Heap} (F : Audited h) where
   unfolding scanGlobals
   scan-globals-happens =
       by-refusal F ScanGlobals (phaseRefusal h 1) (given-small 2 _ (omega arith)) (Value (cond (eqb (globalsState h) 2) count 0))
-      (choose (eqb (globalsState h) 2) (scan 32 (global h) 560 h) h) refl
+      (choose (eqb (globalsState h) 2) (scan globalCount (global h) globalsStateAt h) h) refl
       (λ e. go (simp passes at e) (eqb (globalsState h) 2) refl)
     where
       count : ℕ
-      count = shadeCount (h .pages) (h .table) 32 (global h) (h .bits)
+      count = shadeCount (h .pages) (h .table) globalCount (global h) (h .bits)
 
-      go : phase h ≡ 1 → (b : Bool) → eqb (globalsState h) 2 ≡ b → Accepts h ScanGlobals (Value (cond b count 0)) (choose b (scan 32 (global h) 560 h) h)
+      go : phase h ≡ 1 → (b : Bool) → eqb (globalsState h) 2 ≡ b → Accepts h ScanGlobals (Value (cond b count 0)) (choose b (scan globalCount (global h) globalsStateAt h) h)
       go one true e = record {
-        step = rw (scan-globals-view F (λ i l. reference-there (F .bits) (global h i) (F .references .root (512 + i) (omega arith))))
+        step = rw (scan-globals-view F (λ i l. reference-there (F .bits) (global h i) (F .references .root (firstGlobal + i) (omega arith))))
             (Trace.Step.scanGlobals (audit-view F) (see-phase h one));
         audited = scan-globals-kept F one;
         said = tt;
@@ -174,7 +174,7 @@ module _ {h : Heap} (F : Audited h) where
   sweep-step-happens =
       by-refusal F SweepStep (phaseRefusal h 2) (given-small 2 _ (omega arith))
       (cond (ltb s (h .pages)) (Swept (s + 1) (freedCount h s) (cond (nothingLeft h s) (pageCount (h .table) s) 0)) (Swept 0 0 0))
-      (choose (ltb s (h .pages)) (swept s h) (setRoot 561 0 h)) refl
+      (choose (ltb s (h .pages)) (swept s h) (setRoot phaseAt 0 h)) refl
       (λ e. go (simp passes at e) (ltb s (h .pages)) refl)
     where
       s : ℕ
@@ -182,7 +182,7 @@ module _ {h : Heap} (F : Audited h) where
 
       go : phase h ≡ 2 → (b : Bool) → ltb s (h .pages) ≡ b →
           Accepts h SweepStep (cond b (Swept (s + 1) (freedCount h s) (cond (nothingLeft h s) (pageCount (h .table) s) 0)) (Swept 0 0 0))
-          (choose b (swept s h) (setRoot 561 0 h))
+          (choose b (swept s h) (setRoot phaseAt 0 h))
       go two true e =
           let x = first-unswept (h .pages) (h .table) (ltb-true s (h .pages) e) in
           let z : eqb (s + 1) 0 ≡ false = ne-eqb (s + 1) 0 (omega arith) in

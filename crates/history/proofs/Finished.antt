@@ -16,9 +16,9 @@ use Rattle.marking.proofs.Simulation.{nil-or-live}
 use Rattle.marking.specs.Ledger.{Ledger}
 use Rattle.marking.proofs.Agreement.{Agrees}
 use Rattle.model.specs.Bounded.{firstBelow}
-use Rattle.model.specs.Memory.{Heap, withTable, setRoot, wordOf, addressOf, phase}
+use Rattle.model.specs.Memory.{Heap, withTable, setRoot, wordOf, addressOf, phase, stackCount, slotCount, globalCount, firstGlobal, firstState, globalsStateAt, phaseAt, pageWords}
 use Rattle.model.specs.Bitmaps.{allocated, marked, pointer, is}
-use Rattle.model.specs.Spans.{owner, pageCount, kindEntry, elementWords, spanOf, elementOf, kept, putPages}
+use Rattle.model.specs.Spans.{owner, pageCount, kindEntry, elementWords, spanOf, elementOf, kept, putPages, unsweptFlag}
 use Rattle.model.specs.Cycle.{unsweptPage}
 use Rattle.model.proofs.Tests.{of-true, is-true, cond-same}
 use Rattle.model.proofs.Bounded.{within, within-false}
@@ -36,7 +36,7 @@ unsweptTable h = putPages 0 (h .pages) (unsweptPage (h .table)) (h .table)
 
 -- the heap after a finish
 abbrev pub finished : Heap → Heap
-finished h = setRoot 561 2 (withTable (unsweptTable h) h)
+finished h = setRoot phaseAt 2 (withTable (unsweptTable h) h)
 
 module _ {h : Heap} (F : Audited h) where
   abbrev t : List ℕ
@@ -50,7 +50,7 @@ module _ {h : Heap} (F : Audited h) where
   past x l = List·getD-eq-default t 0 (omega (arith, F .sized .table))
 
   pub finish-at : (x : ℕ) → (owner (unsweptTable h) x ≡ owner (h .table) x) × (pageCount (unsweptTable h) x ≡ pageCount (h .table) x)
-      × (kindEntry (unsweptTable h) x ≡ kindEntry (h .table) x + cond (eqb (owner (h .table) x) (x + 1)) 256 0)
+      × (kindEntry (unsweptTable h) x ≡ kindEntry (h .table) x + cond (eqb (owner (h .table) x) (x + 1)) unsweptFlag 0)
   finish-at x = (
     rw (pages-owner (h .pages) 0 (h .pages) (unsweptPage t) t (omega arith) (F .sized .table) x) (cond-same (within 0 (h .pages) x) (owner t x)),
     rw (pages-count (h .pages) 0 (h .pages) (unsweptPage t) t (omega arith) (F .sized .table) x) (cond-same (within 0 (h .pages) x) (pageCount t x)),
@@ -58,7 +58,7 @@ module _ {h : Heap} (F : Audited h) where
   )
     where
       go : (b : Bool) → within 0 (h .pages) x ≡ b →
-          cond b (kindEntry t x + cond (eqb (owner t x) (x + 1)) 256 0) (kindEntry t x) ≡ kindEntry t x + cond (eqb (owner t x) (x + 1)) 256 0
+          cond b (kindEntry t x + cond (eqb (owner t x) (x + 1)) unsweptFlag 0) (kindEntry t x) ≡ kindEntry t x + cond (eqb (owner t x) (x + 1)) unsweptFlag 0
       go true e = refl
       go false e = rw (ne-eqb (owner t x) (x + 1) (far (within-false 0 (h .pages) x e))) (omega arith)
         where
@@ -69,36 +69,36 @@ module _ {h : Heap} (F : Audited h) where
   finish-same : (x : ℕ) → Same t u x
   finish-same x = let f = finish-at x in (f .0, f .1, rw (f .2) (go (eqb (owner t x) (x + 1))))
     where
-      go : (b : Bool) → (kindEntry t x + cond b 256 0) % 256 ≡ kindEntry t x % 256
+      go : (b : Bool) → (kindEntry t x + cond b unsweptFlag 0) % unsweptFlag ≡ kindEntry t x % unsweptFlag
       go true = omega arith
       go false = omega arith
 
   pub finish-like : (w : ℕ) → Like (h .table) (unsweptTable h) w
-  finish-like w = like t u w (finish-same (w / 1024)) (finish-same (spanOf t w))
+  finish-like w = like t u w (finish-same (w / pageWords)) (finish-same (spanOf t w))
 
-  pub finish-unswept : (w : ℕ) → 0 < owner (h .table) (w / 1024) → unsweptAt (unsweptTable h) w ≡ true
-  finish-unswept w k = rw (finish-at (w / 1024) .0, finish-at (spanOf t w) .2, eq-eqb (owner t (spanOf t w)) (spanOf t w + 1) (span-of (F .spans) w k))
-      (le-leb 256 (kindEntry t (spanOf t w) + 256) (omega arith))
+  pub finish-unswept : (w : ℕ) → 0 < owner (h .table) (w / pageWords) → unsweptAt (unsweptTable h) w ≡ true
+  finish-unswept w k = rw (finish-at (w / pageWords) .0, finish-at (spanOf t w) .2, eq-eqb (owner t (spanOf t w)) (spanOf t w + 1) (span-of (F .spans) w k))
+      (le-leb unsweptFlag (kindEntry t (spanOf t w) + unsweptFlag) (omega arith))
 
-  pub finish-late : (w : ℕ) → 0 < owner (h .table) (w / 1024) → lateAt (unsweptTable h) w ≡ true
+  pub finish-late : (w : ℕ) → 0 < owner (h .table) (w / pageWords) → lateAt (unsweptTable h) w ≡ true
   unfolding lateAt
-  finish-late w k = rw (finish-unswept w k, finish-at (w / 1024) .0, ne-eqb (owner t (w / 1024)) 0 (omega arith))
+  finish-late w k = rw (finish-unswept w k, finish-at (w / pageWords) .0, ne-eqb (owner t (w / pageWords)) 0 (omega arith))
 
   pub finish-view : view (finished h) ≡ heapFinish (lateAt (unsweptTable h)) (view h)
   unfolding view heapFinish
   finish-view = heap-eq refl refl
       (λ i. record { scan = sc i; pointers = λ w. runFrom (is pointer h) w (el i w); words = el i }) refl
-      (colours-eq refl refl (rw (rest 560 (omega arith))) (states-same (λ x. eqb x 2) r (h .roots) (λ x b c. rest x (omega arith))))
+      (colours-eq refl refl (rw (rest globalsStateAt (omega arith))) (states-same (λ x. eqb x 2) r (h .roots) (λ x b c. rest x (omega arith))))
       (slots-same r (h .roots) (λ x b. rest x (omega arith)))
       (globals-same r (h .roots) (λ x b c. rest x (omega arith)))
       (states-same (λ x. not (eqb x 0)) r (h .roots) (λ x b c. rest x (omega arith)))
-      (ap phaseOf (root-at F 561 2 (omega arith) 561))
+      (ap phaseOf (root-at F phaseAt 2 (omega arith) phaseAt))
     where
       r : List ℕ
-      r = set (h .roots) 561 2
+      r = set (h .roots) phaseAt 2
 
-      rest : (x : ℕ) → x ≢ 561 → getD r x 0 ≡ getD (h .roots) x 0
-      rest = root-other F 561 2 (omega arith)
+      rest : (x : ℕ) → x ≢ phaseAt → getD r x 0 ≡ getD (h .roots) x 0
+      rest = root-other F phaseAt 2 (omega arith)
 
       sc : scansAt u ≡ scansAt t
       sc = unfold scansAt in fun-ext (λ w. like-scan (finish-like w))
@@ -118,9 +118,9 @@ module _ {h : Heap} (F : Audited h) where
         (entry (kindEntry t s) (pageCount t s) (F .phases .swept (λ x. absurd (omega arith)) s e′) (F .spans .entry s e′));
   }
     where
-      entry : (k c : ℕ) → k < 256 → GoodEntry k c → GoodEntry (k + 256) c
+      entry : (k c : ℕ) → k < unsweptFlag → GoodEntry k c → GoodEntry (k + unsweptFlag) c
       entry k c l G =
-          let y : (k + 256) % 256 ≡ k % 256 = omega arith in
+          let y : (k + unsweptFlag) % unsweptFlag ≡ k % unsweptFlag = omega arith in
           record { flag = omega arith; kind = rw y (G .kind); large = λ w. G .large (rw y at w); small = λ w. rw y (G .small (rw y at w)) }
 
   pub finish-bits : Bits (h .pages) (unsweptTable h) (h .bits)
@@ -135,7 +135,7 @@ module _ {h : Heap} (F : Audited h) where
       arena = F .sized .arena;
       table = pages-length (h .pages) 0 (h .pages) (unsweptPage t) t (omega arith) (F .sized .table);
       bits = F .sized .bits;
-      roots = length-set (h .roots) 561 2 ∙ F .sized .roots;
+      roots = length-set (h .roots) phaseAt 2 ∙ F .sized .roots;
     };
     spans = finish-spans (N .phase);
     bits = finish-bits;
@@ -148,18 +148,18 @@ module _ {h : Heap} (F : Audited h) where
     references = R;
     states = record {
       phase = rw now (omega arith);
-      legal = λ s l. rw (rest (544 + s) (omega arith)) (F .states .legal s l .0, λ e. absurd (N .stacks s l e));
-      globals = rw (rest 560 (omega arith)) (F .states .globals .0, F .states .globals .1, λ e. absurd (N .globals e));
-      closed = λ s i l m e. rw (rest (32 * s + i) (omega arith)) (F .states .closed s i l m (rw (rest (544 + s) (omega arith)) at e));
+      legal = λ s l. rw (rest (firstState + s) (omega arith)) (F .states .legal s l .0, λ e. absurd (N .stacks s l e));
+      globals = rw (rest globalsStateAt (omega arith)) (F .states .globals .0, F .states .globals .1, λ e. absurd (N .globals e));
+      closed = λ s i l m e. rw (rest (slotCount * s + i) (omega arith)) (F .states .closed s i l m (rw (rest (firstState + s) (omega arith)) at e));
     };
     occupied = λ s e. let f = F .occupied s (rw (finish-at s .0) at e) in (f .0, f .1, finish-like (f .0) .at ∙ f .2);
   }
     where
-      now : getD (set (h .roots) 561 2) 561 0 ≡ 2
-      now = root-at F 561 2 (omega arith) 561
+      now : getD (set (h .roots) phaseAt 2) phaseAt 0 ≡ 2
+      now = root-at F phaseAt 2 (omega arith) phaseAt
 
-      rest : (x : ℕ) → x ≢ 561 → getD (set (h .roots) 561 2) x 0 ≡ getD (h .roots) x 0
-      rest = root-other F 561 2 (omega arith)
+      rest : (x : ℕ) → x ≢ phaseAt → getD (set (h .roots) phaseAt 2) x 0 ≡ getD (h .roots) x 0
+      rest = root-other F phaseAt 2 (omega arith)
 
 -- the references, from the theory's invariant: whatever call it was
 module _ (h : Heap) {L : Ledger} {S : State} {Y : Layout} (F : Spans (h .pages) (h .table)) (C : Bits (h .pages) (h .table) (h .bits)) (R : Agrees (view h) L S Y) where
@@ -172,7 +172,7 @@ module _ (h : Heap) {L : Ledger} {S : State} {Y : Layout} (F : Spans (h .pages) 
   -- at an allocated word the view's flag is the table's
   late-is : (w : ℕ) → T (is allocated h w) → lateAt t′ w ≡ unsweptAt t′ w
   unfolding lateAt
-  late-is w a = rw (ne-eqb (owner t′ (w / 1024)) 0 (omega (arith, C .element w a .lies .used)))
+  late-is w a = rw (ne-eqb (owner t′ (w / pageWords)) 0 (omega (arith, C .element w a .lies .used)))
 
   on : (x : ℕ) → Live (S .allocated) x → T (is allocated h (Y .at x))
   unfolding view
@@ -199,21 +199,21 @@ module _ (h : Heap) {L : Ledger} {S : State} {Y : Layout} (F : Spans (h .pages) 
   pub agreed-references : References h
   unfolding view wordsAt runFrom
   agreed-references = record {
-    root = λ x l. root x l (ltb x 512) refl;
+    root = λ x l. root x l (ltb x firstGlobal) refl;
     content = λ v p kp. content v p kp (R .represents .placed .only (elementOf t′ v) (C .pointers v p .2));
   }
     where
-      root : (x : ℕ) → x < 544 → (b : Bool) → ltb x 512 ≡ b → Reference P t′ (h .bits) (getD (h .roots) x 0)
+      root : (x : ℕ) → x < firstState → (b : Bool) → ltb x firstGlobal ≡ b → Reference P t′ (h .bits) (getD (h .roots) x 0)
       root x l true e =
-          let l′ = ltb-true x 512 e in
-          let z : 32 * (x / 32) + x % 32 ≡ x = omega arith in
-          let s = rw (lt-ltb (x / 32) 16 (omega arith), lt-ltb (x % 32) 32 (omega arith), z) at (R .represents .words .slot (x / 32) (x % 32)) in
-          rw s (address-refers (S .graph .slot (x / 32) (x % 32)) (R .invariant .keptClosed .root (x / 32) (x % 32)))
+          let l′ = ltb-true x firstGlobal e in
+          let z : slotCount * (x / slotCount) + x % slotCount ≡ x = omega arith in
+          let s = rw (lt-ltb (x / slotCount) stackCount (omega arith), lt-ltb (x % slotCount) slotCount (omega arith), z) at (R .represents .words .slot (x / slotCount) (x % slotCount)) in
+          rw s (address-refers (S .graph .slot (x / slotCount) (x % slotCount)) (R .invariant .keptClosed .root (x / slotCount) (x % slotCount)))
       root x l false e =
-          let l′ = ltb-false x 512 e in
-          let z : 512 + (x - 512) ≡ x = omega arith in
-          let s = rw (lt-ltb (x - 512) 32 (omega arith), z) at (R .represents .words .global (x - 512)) in
-          rw s (address-refers (S .graph .field 0 (x - 512)) (R .invariant .keptClosed .step 0 (x - 512) (R .invariant .keptClosed .nil)))
+          let l′ = ltb-false x firstGlobal e in
+          let z : firstGlobal + (x - firstGlobal) ≡ x = omega arith in
+          let s = rw (lt-ltb (x - firstGlobal) globalCount (omega arith), z) at (R .represents .words .global (x - firstGlobal)) in
+          rw s (address-refers (S .graph .field 0 (x - firstGlobal)) (R .invariant .keptClosed .step 0 (x - firstGlobal) (R .invariant .keptClosed .nil)))
 
       -- a pointer word lies in the run of its element
       run-in : (v w : ℕ) → T (is pointer h v) → (f : ℕ) → Element t′ w → f < elementWords t′ (spanOf t′ w) → w + f ≡ v →

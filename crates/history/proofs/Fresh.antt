@@ -10,7 +10,7 @@ use lib.ListN.{getD, set, length-set, replicate, length-replicate, getD-replicat
 use lib.Dec.{T, eqb, ltb}
 use borrow.Author.Tests.{ltb-true, ltb-false, ne-eqb}
 use Rattle.marking.specs.Trace.{Fresh}
-use Rattle.model.specs.Memory.{Heap}
+use Rattle.model.specs.Memory.{Heap, stackCount, slotCount, globalCount, firstGlobal, firstState, globalsStateAt, phaseAt, rootWords, pageWords, entryNumbers, bitmapWords, wordBits}
 use Rattle.model.specs.Bitmaps.{Part, allocated, marked, gray, pointer, bitIn, bitAt, bitOf, place}
 use Rattle.model.specs.Spans.{owner, pageCount, kindEntry}
 use Rattle.model.specs.Records.{fresh}
@@ -31,38 +31,38 @@ zero-at n i = go (ltb i n) refl
 
 no-bit : (n m : ℕ) (q : Part) (w : ℕ) → bitIn n q (zeros m) w ≡ false
 unfolding bitIn bitAt bitOf
-no-bit n m q w = rw (zero-at m (place n q w / 64), zero-div (2 ^ (place n q w % 64))) (and-false (ltb w n))
+no-bit n m q w = rw (zero-at m (place n q w / wordBits), zero-div (2 ^ (place n q w % wordBits))) (and-false (ltb w n))
 
-root-is : (x : ℕ) → getD (set (zeros 562) 560 1) x 0 ≡ cond (eqb x 560) 1 0
-root-is x = rw (set-at (zeros 562) 560 1 (rw (length-replicate {A = ℕ} 562 0) (omega arith)) x, zero-at 562 x)
+root-is : (x : ℕ) → getD (set (zeros rootWords) globalsStateAt 1) x 0 ≡ cond (eqb x globalsStateAt) 1 0
+root-is x = rw (set-at (zeros rootWords) globalsStateAt 1 (rw (length-replicate {A = ℕ} rootWords 0) (omega arith)) x, zero-at rootWords x)
 
-root-nil : (x : ℕ) → x ≢ 560 → getD (set (zeros 562) 560 1) x 0 ≡ 0
-root-nil x d = rw (root-is x, ne-eqb x 560 d)
+root-nil : (x : ℕ) → x ≢ globalsStateAt → getD (set (zeros rootWords) globalsStateAt 1) x 0 ≡ 0
+root-nil x d = rw (root-is x, ne-eqb x globalsStateAt d)
 
 pub fresh-view : (h : Heap) → Fresh (view (fresh h))
 unfolding view fresh
 fresh-view h = record {
-  allocated = λ w. no-bit (1024 * h .pages) (64 * h .pages) allocated w;
-  slots = λ t i. slots t i (ltb t 16) refl (ltb i 32) refl;
-  globals = λ g. globals g (ltb g 32) refl;
-  opened = λ t. opened t (ltb t 16) refl;
-  phase = ap phaseOf (root-is 561);
+  allocated = λ w. no-bit (pageWords * h .pages) (bitmapWords * h .pages) allocated w;
+  slots = λ t i. slots t i (ltb t stackCount) refl (ltb i slotCount) refl;
+  globals = λ g. globals g (ltb g globalCount) refl;
+  opened = λ t. opened t (ltb t stackCount) refl;
+  phase = ap phaseOf (root-is phaseAt);
 }
   where
     r : List ℕ
-    r = set (zeros 562) 560 1
+    r = set (zeros rootWords) globalsStateAt 1
 
-    slots : (t i : ℕ) (a : Bool) → ltb t 16 ≡ a → (b : Bool) → ltb i 32 ≡ b → cond (a && b) (getD r (32 * t + i) 0) 0 ≡ 0
-    slots t i true e true f = root-nil (32 * t + i) (omega (arith, ltb-true t 16 e, ltb-true i 32 f))
+    slots : (t i : ℕ) (a : Bool) → ltb t stackCount ≡ a → (b : Bool) → ltb i slotCount ≡ b → cond (a && b) (getD r (slotCount * t + i) 0) 0 ≡ 0
+    slots t i true e true f = root-nil (slotCount * t + i) (omega (arith, ltb-true t stackCount e, ltb-true i slotCount f))
     slots t i true e false f = refl
     slots t i false e b f = refl
 
-    globals : (g : ℕ) (a : Bool) → ltb g 32 ≡ a → cond a (getD r (512 + g) 0) 0 ≡ 0
-    globals g true e = root-nil (512 + g) (omega (arith, ltb-true g 32 e))
+    globals : (g : ℕ) (a : Bool) → ltb g globalCount ≡ a → cond a (getD r (firstGlobal + g) 0) 0 ≡ 0
+    globals g true e = root-nil (firstGlobal + g) (omega (arith, ltb-true g globalCount e))
     globals g false e = refl
 
-    opened : (t : ℕ) (a : Bool) → ltb t 16 ≡ a → (a && not (eqb (getD r (544 + t) 0) 0)) ≡ false
-    opened t true e = rw (root-nil (544 + t) (omega (arith, ltb-true t 16 e)))
+    opened : (t : ℕ) (a : Bool) → ltb t stackCount ≡ a → (a && not (eqb (getD r (firstState + t) 0) 0)) ≡ false
+    opened t true e = rw (root-nil (firstState + t) (omega (arith, ltb-true t stackCount e)))
     opened t false e = refl
 
 pub fresh-kept : (h : Heap) → Sized h → Audited (fresh h)
@@ -72,16 +72,16 @@ fresh-kept h Z = record {
     low = Z .low;
     high = Z .high;
     arena = Z .arena;
-    table = length-replicate (3 * h .pages) 0;
-    bits = length-replicate (64 * h .pages) 0;
-    roots = length-set (zeros 562) 560 1 ∙ length-replicate {A = ℕ} 562 0;
+    table = length-replicate (entryNumbers * h .pages) 0;
+    bits = length-replicate (bitmapWords * h .pages) 0;
+    roots = length-set (zeros rootWords) globalsStateAt 1 ∙ length-replicate {A = ℕ} rootWords 0;
   };
   spans = record {
-    whose = λ g y. absurd (omega (arith, zero-at (3 * h .pages) (3 * g)));
-    body = λ s g e. absurd (omega (arith, zero-at (3 * h .pages) (3 * s)));
-    inside = λ s e. absurd (omega (arith, zero-at (3 * h .pages) (3 * s)));
-    rest = λ g d. (zero-at (3 * h .pages) (3 * g + 1), zero-at (3 * h .pages) (3 * g + 2));
-    entry = λ s e. absurd (omega (arith, zero-at (3 * h .pages) (3 * s)));
+    whose = λ g y. absurd (omega (arith, zero-at (entryNumbers * h .pages) (entryNumbers * g)));
+    body = λ s g e. absurd (omega (arith, zero-at (entryNumbers * h .pages) (entryNumbers * s)));
+    inside = λ s e. absurd (omega (arith, zero-at (entryNumbers * h .pages) (entryNumbers * s)));
+    rest = λ g d. (zero-at (entryNumbers * h .pages) (entryNumbers * g + 1), zero-at (entryNumbers * h .pages) (entryNumbers * g + 2));
+    entry = λ s e. absurd (omega (arith, zero-at (entryNumbers * h .pages) (entryNumbers * s)));
   };
   bits = record {
     element = λ w a. absurd (none allocated w a);
@@ -92,20 +92,20 @@ fresh-kept h Z = record {
     run = λ w a. absurd (none pointer w a);
   };
   phases = record {
-    none = λ e w. no-bit (1024 * h .pages) (64 * h .pages) marked w;
-    swept = λ d s e. absurd (omega (arith, zero-at (3 * h .pages) (3 * s)));
-    plain = λ d w. no-bit (1024 * h .pages) (64 * h .pages) gray w;
+    none = λ e w. no-bit (pageWords * h .pages) (bitmapWords * h .pages) marked w;
+    swept = λ d s e. absurd (omega (arith, zero-at (entryNumbers * h .pages) (entryNumbers * s)));
+    plain = λ d w. no-bit (pageWords * h .pages) (bitmapWords * h .pages) gray w;
     unswept = λ e w a. absurd (none marked w a);
   };
   references = record { root = λ x l. inl (root-nil x (omega arith)); content = λ v a. absurd (none pointer v a) };
   states = record {
-    phase = rw (root-nil 561 (omega arith)) (omega arith);
-    legal = λ s l. rw (root-nil (544 + s) (omega arith)) (omega arith, λ e. absurd (omega arith));
-    globals = rw (root-is 560) (omega arith, omega arith, λ e. absurd (omega arith));
-    closed = λ s i l m e. root-nil (32 * s + i) (omega arith);
+    phase = rw (root-nil phaseAt (omega arith)) (omega arith);
+    legal = λ s l. rw (root-nil (firstState + s) (omega arith)) (omega arith, λ e. absurd (omega arith));
+    globals = rw (root-is globalsStateAt) (omega arith, omega arith, λ e. absurd (omega arith));
+    closed = λ s i l m e. root-nil (slotCount * s + i) (omega arith);
   };
-  occupied = λ s e. absurd (omega (arith, zero-at (3 * h .pages) (3 * s)));
+  occupied = λ s e. absurd (omega (arith, zero-at (entryNumbers * h .pages) (entryNumbers * s)));
 }
   where
-    none : (q : Part) (w : ℕ) → T (bitIn (1024 * h .pages) q (zeros (64 * h .pages)) w) → ⊥
-    none q w a = true≢false (sym (of-true _ a) ∙ no-bit (1024 * h .pages) (64 * h .pages) q w)
+    none : (q : Part) (w : ℕ) → T (bitIn (pageWords * h .pages) q (zeros (bitmapWords * h .pages)) w) → ⊥
+    none q w a = true≢false (sym (of-true _ a) ∙ no-bit (pageWords * h .pages) (bitmapWords * h .pages) q w)

@@ -18,9 +18,9 @@ use Rattle.marking.proofs.Advance.{advancing}
 use Rattle.marking.specs.Advance
 use Rattle.marking.proofs.Freed.{Reached, reached-step}
 use Rattle.model.specs.Bounded.{countBelow, someBelow}
-use Rattle.model.specs.Memory.{Heap, phase, state, globalsState, words}
+use Rattle.model.specs.Memory.{Heap, phase, state, globalsState, words, stackCount, firstState, globalsStateAt, phaseAt, addressOf}
 use Rattle.model.specs.Answers.{_given_, _orElse_}
-use Rattle.model.specs.Spans.{kindEntry, startsSpan, isUnswept}
+use Rattle.model.specs.Spans.{kindEntry, startsSpan, isUnswept, unsweptFlag}
 use Rattle.model.specs.Checks.{phaseRefusal, openRefusal}
 use Rattle.model.specs.Cycle.{sweptTable, start, scanStack, scanGlobals, markStep, finish, sweepStep, firstGray, firstUnswept, finishRefusal}
 use Rattle.model.specs.Calls.{Start, ScanGlobals, MarkStep, Finish, SweepStep, ScanStack, run, Request, step, sweepsIn, sweepsOf, after, audited}
@@ -49,10 +49,10 @@ unfolding finish
 done {h} F e = rw (entry-passes h F, e)
 
 -- the calls of the mark phase that find something gray: the event, and the phase afterwards
-scan-event : {h : Heap} → Audited h → phase h ≡ 1 → (s : ℕ) → s < 16 → state h s ≡ 2 →
+scan-event : {h : Heap} → Audited h → phase h ≡ 1 → (s : ℕ) → s < stackCount → state h s ≡ 2 →
     (event (ScanStack s) (run h (ScanStack s) .answer) ≡ Event.scanStack s) × (phase (run h (ScanStack s) .heap) ≡ 1)
 unfolding scanStack
-scan-event {h} F one s l e = rw (entry-passes h F, passed, eq-eqb (state h s) 2 e) (refl, root-other F (544 + s) 1 (omega arith) 561 (omega arith) ∙ one)
+scan-event {h} F one s l e = rw (entry-passes h F, passed, eq-eqb (state h s) 2 e) (refl, root-other F (firstState + s) 1 (omega arith) phaseAt (omega arith) ∙ one)
   where
     passed : (phaseRefusal h 1 orElse openRefusal h s) ≡ 0
     passed = simp passes (one, (l, λ z. absurd (omega arith)))
@@ -60,34 +60,34 @@ scan-event {h} F one s l e = rw (entry-passes h F, passed, eq-eqb (state h s) 2 
 globals-event : {h : Heap} → Audited h → phase h ≡ 1 → globalsState h ≡ 2 →
     (event ScanGlobals (run h ScanGlobals .answer) ≡ Event.scanGlobals) × (phase (run h ScanGlobals .heap) ≡ 1)
 unfolding scanGlobals
-globals-event {h} F one e = rw (entry-passes h F, passed, eq-eqb (globalsState h) 2 e) (refl, root-other F 560 1 (omega arith) 561 (omega arith) ∙ one)
+globals-event {h} F one e = rw (entry-passes h F, passed, eq-eqb (globalsState h) 2 e) (refl, root-other F globalsStateAt 1 (omega arith) phaseAt (omega arith) ∙ one)
   where
     passed : phaseRefusal h 1 ≡ 0
     passed = simp passes one
 
 mark-event : {h : Heap} → Audited h → phase h ≡ 1 → firstGray h < words h → (event MarkStep (run h MarkStep .answer) ≡ Event.markStep) × (phase (run h MarkStep .heap) ≡ 1)
 unfolding markStep
-mark-event {h} F one l = rw (entry-passes h F, passed, lt-ltb (firstGray h) (words h) l, ne-eqb (8192 + 8 * firstGray h) 0 (omega arith)) (refl, one)
+mark-event {h} F one l = rw (entry-passes h F, passed, lt-ltb (firstGray h) (words h) l, ne-eqb (addressOf (firstGray h)) 0 (omega arith)) (refl, one)
   where
     passed : phaseRefusal h 1 ≡ 0
     passed = simp passes one
 
 -- what is gray where finish is refused
-grays : (h : Heap) → phase h ≡ 1 → finishRefusal h ≢ 0 → ((s : ℕ) × (s < 16) × (state h s ≡ 2)) ⊎ ((globalsState h ≡ 2) ⊎ (firstGray h < words h))
+grays : (h : Heap) → phase h ≡ 1 → finishRefusal h ≢ 0 → ((s : ℕ) × (s < stackCount) × (state h s ≡ 2)) ⊎ ((globalsState h ≡ 2) ⊎ (firstGray h < words h))
 unfolding finishRefusal _given_ _orElse_
-grays h one d = go (someBelow 16 (λ s. eqb (state h s) 2)) refl (eqb (globalsState h) 2) refl (ltb (firstGray h) (words h)) refl (rw one at d)
+grays h one d = go (someBelow stackCount (λ s. eqb (state h s) 2)) refl (eqb (globalsState h) 2) refl (ltb (firstGray h) (words h)) refl (rw one at d)
   where
-    go : (a : Bool) → someBelow 16 (λ s. eqb (state h s) 2) ≡ a → (b : Bool) → eqb (globalsState h) 2 ≡ b → (c : Bool) → ltb (firstGray h) (words h) ≡ c →
-        _≢_ {A = ℕ} (cond (a || b || c) 10 0) 0 → ((s : ℕ) × (s < 16) × (state h s ≡ 2)) ⊎ ((globalsState h ≡ 2) ⊎ (firstGray h < words h))
-    go true e b f c g n = let x = some-iff 16 (λ s. eqb (state h s) 2) .0 (is-true _ e) in inl (x .0, x .1, eqb-true (state h (x .0)) 2 (of-true _ (x .2)))
+    go : (a : Bool) → someBelow stackCount (λ s. eqb (state h s) 2) ≡ a → (b : Bool) → eqb (globalsState h) 2 ≡ b → (c : Bool) → ltb (firstGray h) (words h) ≡ c →
+        _≢_ {A = ℕ} (cond (a || b || c) 10 0) 0 → ((s : ℕ) × (s < stackCount) × (state h s ≡ 2)) ⊎ ((globalsState h ≡ 2) ⊎ (firstGray h < words h))
+    go true e b f c g n = let x = some-iff stackCount (λ s. eqb (state h s) 2) .0 (is-true _ e) in inl (x .0, x .1, eqb-true (state h (x .0)) 2 (of-true _ (x .2)))
     go false e true f c g n = inr (inl (eqb-true (globalsState h) 2 f))
     go false e false f true g n = inr (inr (ltb-true (firstGray h) (words h) g))
     go false e false f false g n = absurd (n refl)
 
 -- what the theory's measure needs to see
-see-stack : (h : Heap) (s : ℕ) → s < 16 → state h s ≡ 2 → T (view h .bits .grayStack s)
+see-stack : (h : Heap) (s : ℕ) → s < stackCount → state h s ≡ 2 → T (view h .bits .grayStack s)
 unfolding view
-see-stack h s l e = rw (lt-ltb s 16 l, e) tt
+see-stack h s l e = rw (lt-ltb s stackCount l, e) tt
 
 see-globals : (h : Heap) → globalsState h ≡ 2 → T (view h .bits .grayGlobals)
 unfolding view
@@ -109,14 +109,14 @@ record Lowers (P : ℕ) (h : Heap) (L : Ledger) : Type 0 where
   marks : phase (step h request .heap) ≡ 1
   audited : Audited (onPages P (step h request .heap))
   reached : Reached (view (onPages P (step h request .heap))) ledger counts
-  falls : toMark 16 ledger (view (onPages P (step h request .heap))) < toMark 16 L (view (onPages P h))
+  falls : toMark stackCount ledger (view (onPages P (step h request .heap))) < toMark stackCount L (view (onPages P h))
 
 lowers : (P : ℕ) (h : Heap) {L : Ledger} {n : ℕ → ℕ} → Audited (onPages P h) → Reached (view (onPages P h)) L n → phase h ≡ 1 →
     finishRefusal (onPages P h) ≢ 0 → Lowers P h L
 unfolding sweepsIn
 lowers P h {L} {n} F N one d = some (grays (onPages P h) one d)
   where
-    by : (r : Request) (e : Event) → sweepsOf h r ≡ [] → eventOn h r ≡ e → phase (step h r .heap) ≡ 1 → Advances 16 (view (onPages P h)) e →
+    by : (r : Request) (e : Event) → sweepsOf h r ≡ [] → eventOn h r ≡ e → phase (step h r .heap) ≡ 1 → Advances stackCount (view (onPages P h)) e →
         ((rs : List Request) → Collects P rs → Collects P (r ∷ rs)) → Lowers P h L
     by r e z p two a c =
         let m = at-once (made P h F (N .agrees) r) z in
@@ -130,10 +130,10 @@ lowers P h {L} {n} F N one d = some (grays (onPages P h) one d)
           marks = two;
           audited = m .audited;
           reached = reached-step s N;
-          falls = advancing (N .agrees) .marks 16 (see-mark (onPages P h) one) s a;
+          falls = advancing (N .agrees) .marks stackCount (see-mark (onPages P h) one) s a;
         }
 
-    some : (((s : ℕ) × (s < 16) × (state h s ≡ 2)) ⊎ ((globalsState h ≡ 2) ⊎ (firstGray (onPages P h) < words (onPages P h)))) → Lowers P h L
+    some : (((s : ℕ) × (s < stackCount) × (state h s ≡ 2)) ⊎ ((globalsState h ≡ 2) ⊎ (firstGray (onPages P h) < words (onPages P h)))) → Lowers P h L
     some (inl x) = let y = scan-event F one (x .0) (x .1) (x .2) in
         by (record { pages = P; call = ScanStack (x .0) }) (Event.scanStack (x .0)) refl (y .0) (y .1)
         (Advance.scan (x .0) (x .1) (see-stack (onPages P h) (x .0) (x .1) (x .2))) (λ rs c. Collects.scan (x .0) c)
@@ -150,7 +150,7 @@ pub record Finishing (P k : ℕ) (h : Heap) : Type 0 where
   pub finish : eventOn (after h calls) (finishOf P) ≡ Event.finish
 
 pub finishing : (P k : ℕ) (h : Heap) {L : Ledger} {n : ℕ → ℕ} → Audited (onPages P h) → Reached (view (onPages P h)) L n → phase h ≡ 1 →
-    toMark 16 L (view (onPages P h)) ≤ k → Finishing P k h
+    toMark stackCount L (view (onPages P h)) ≤ k → Finishing P k h
 unfolding after
 finishing P zero h {L} F N one l = now (eqb (finishRefusal (onPages P h)) 0) refl
   where
@@ -225,7 +225,7 @@ end-event {h} F two l = rw (entry-passes h F, passed, le-ltb (firstUnswept (h .p
     passed = simp passes two
 
 -- one unswept span less
-fewer : {h : Heap} → Audited h → (s : ℕ) → s < h .pages → IsSpan (h .table) s → 256 ≤ kindEntry (h .table) s →
+fewer : {h : Heap} → Audited h → (s : ℕ) → s < h .pages → IsSpan (h .table) s → unsweptFlag ≤ kindEntry (h .table) s →
     countBelow (h .pages) (λ x. startsSpan (sweptTable h s) x && isUnswept (sweptTable h s) x) < unsweptSpans h
 fewer {h} F s l i k =
     count-fewer (h .pages) (λ x. startsSpan (sweptTable h s) x && isUnswept (sweptTable h s) x) (λ x. startsSpan (h .table) x && isUnswept (h .table) x) s l

@@ -11,7 +11,7 @@ use borrow.Author.Tests.{lt-ltb, eq-eqb}
 use Rattle.marking.specs.WordHeap
 use Rattle.marking.specs.Trace.{Step}
 use Rattle.marking.specs.Trace
-use Rattle.model.specs.Memory.{Heap, withArena, withBits, withTable, setRoot, slot, global, word, wordOf, addressOf, slotAt}
+use Rattle.model.specs.Memory.{Heap, withArena, withBits, withTable, setRoot, slot, global, word, wordOf, addressOf, slotAt, stackCount, slotCount, firstGlobal, pageWords}
 use Rattle.model.specs.Bitmaps.{allocated, pointer, is}
 use Rattle.model.specs.Spans.{kept}
 use Rattle.model.specs.Classes.{kindOf, pagesFor}
@@ -38,19 +38,19 @@ use Rattle.history.proofs.ViewTaken.{taken-step}
 use Rattle.history.proofs.Steps.{Happens, by-refusal, slot-now, audit-view, see-slot, see-open, see-global, see-pointers, see-words, see-word, see-at}
 
 -- .. and so does one that an allocation took
-taken-now : {h : Heap} → Audited h → (s i w n p : ℕ) (u : List ℕ) → s < 16 → i < 32 → Value (addressOf w) ≡ Value (view (taken s i w n p (withTable u h)) .slots s i)
+taken-now : {h : Heap} → Audited h → (s i w n p : ℕ) (u : List ℕ) → s < stackCount → i < slotCount → Value (addressOf w) ≡ Value (view (taken s i w n p (withTable u h)) .slots s i)
 unfolding view
 taken-now {h} F s i w n p u a b = ap Value
     (sym (rw (
-      lt-ltb s 16 a,
-      lt-ltb i 32 b,
-      Rattle.keeps.proofs.Roots.root-at F (32 * s + i) (addressOf w) (omega arith) (32 * s + i),
-      eq-eqb (32 * s + i) (32 * s + i) refl,
+      lt-ltb s stackCount a,
+      lt-ltb i slotCount b,
+      Rattle.keeps.proofs.Roots.root-at F (slotCount * s + i) (addressOf w) (omega arith) (slotCount * s + i),
+      eq-eqb (slotCount * s + i) (slotCount * s + i) refl,
     )))
 
 module _ {h : Heap} (F : Audited h) where
-  root : (s i : ℕ) → s < 16 → i < 32 → Refers h (slot h s i)
-  root s i a b = F .references .root (32 * s + i) (omega arith)
+  root : (s i : ℕ) → s < stackCount → i < slotCount → Refers h (slot h s i)
+  root s i a b = F .references .root (slotCount * s + i) (omega arith)
 
   pub open-happens : (s : ℕ) → let o = openStack h s in Happens h (Open s) (o .answer) (o .heap)
   unfolding openStack emptied
@@ -100,16 +100,16 @@ module _ {h : Heap} (F : Audited h) where
       let x = global-passed h s i g e in let o = x .0 in record {
         step = rw (slot-view F s i (global h g) (o .below) (x .1), ← (see-global h g (x .2)))
             (Trace.Step.loadGlobal s i g (audit-view F) (see-open h s (o .below) (o .isOpen)) (x .1));
-        audited = slot-kept F s i (global h g) (o .below) (x .1) (o .isOpen) (F .references .root (512 + g) (omega (arith, x .2)));
+        audited = slot-kept F s i (global h g) (o .below) (x .1) (o .isOpen) (F .references .root (firstGlobal + g) (omega (arith, x .2)));
         said = slot-now F s i (global h g) (o .below) (x .1);
         zero = refl;
       })
 
   -- the record in slot j: what it names
-  record-named : (s j : ℕ) → s < 16 → j < 32 → slot h s j ≢ 0 → T (is allocated h (recordAt h s j)) × T (kept h (recordAt h s j)) × (recordAt h s j < 1024 * h .pages)
+  record-named : (s j : ℕ) → s < stackCount → j < slotCount → slot h s j ≢ 0 → T (is allocated h (recordAt h s j)) × T (kept h (recordAt h s j)) × (recordAt h s j < pageWords * h .pages)
   record-named s j a b d = named (F .bits) (slot h s j) d (root s j a b)
 
-  see-record : (s j : ℕ) → s < 16 → j < 32 → wordOf (view h .slots s j) ≡ recordAt h s j
+  see-record : (s j : ℕ) → s < stackCount → j < slotCount → wordOf (view h .slots s j) ≡ recordAt h s j
   see-record s j a b = rw (see-slot h s j a b) (see-at (slot h s j))
 
   pub load-happens : (s i j f : ℕ) → let o = load h s i j f in Happens h (Load s i j f) (o .answer) (o .heap)
@@ -135,7 +135,7 @@ module _ {h : Heap} (F : Audited h) where
       let x = pointer-passed h s k j f e in let o = x .stack in
       let n = record-named s j (o .below) (x .slot) (x .named) in
       let p = pointer-word F (recordAt h s j) (n .0) (n .1) f (x .field) in
-      let l = bit-inside (1024 * h .pages) pointer (h .bits) (recordAt h s j + f) (p .0) in
+      let l = bit-inside (pageWords * h .pages) pointer (h .bits) (recordAt h s j + f) (p .0) in
       let r = root s k (o .below) (x .other) in
       let z = see-record s j (o .below) (x .slot) in record {
         step = rw (store-view F (recordAt h s j + f) (slot h s k) l (reference-there (F .bits) (slot h s k) r)
@@ -156,7 +156,7 @@ module _ {h : Heap} (F : Audited h) where
       let r = root s i (o .below) (x .1) in record {
         step = rw (
           store-global-view F g (slot h s i) (x .2) (reference-there (F .bits) (slot h s i) r)
-              (reference-there (F .bits) (global h g) (F .references .root (512 + g) (omega (arith, x .2)))),
+              (reference-there (F .bits) (global h g) (F .references .root (firstGlobal + g) (omega (arith, x .2)))),
           ← (see-slot h s i (o .below) (x .1)),
         )
             (Trace.Step.storeGlobal s g i (audit-view F) (x .2));

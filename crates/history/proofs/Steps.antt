@@ -11,7 +11,7 @@ use Rattle.marking.specs.WordHeap.{Phase, off, mark, sweep, LegalColours}
 use Rattle.marking.specs.WordHeap
 use Rattle.marking.specs.Trace.{Step}
 use Rattle.marking.specs.Trace
-use Rattle.model.specs.Memory.{Heap, choose, setRoot, slot, global, state, phase, word, words, wordOf, slotAt}
+use Rattle.model.specs.Memory.{Heap, choose, setRoot, slot, global, state, phase, word, words, wordOf, slotAt, stackCount, slotCount, globalCount, pageWords}
 use Rattle.model.specs.Spans.{spanOf, elementWords, pointerCount}
 use Rattle.model.specs.Answers.{outcome}
 use Rattle.model.specs.Calls.{audited, Call, Setup, Audit, Start, ScanGlobals, MarkStep, Finish, SweepStep, Open, Close, ScanStack, Clear, Copy, Get, LoadGlobal, StoreGlobal, Allocate, Load, Store, Put}
@@ -72,13 +72,13 @@ by-refusal {h} F c n l a done e f = go (eqb n 0) refl
     go false p = rw e (is-refused F c n (eqb-false n 0 p) (omega arith))
 
 -- a slot that was set holds the value
-pub slot-now : {h : Heap} → Audited h → (s i v : ℕ) → s < 16 → i < 32 → Value v ≡ Value (view (setRoot (slotAt s i) v h) .slots s i)
+pub slot-now : {h : Heap} → Audited h → (s i v : ℕ) → s < stackCount → i < slotCount → Value v ≡ Value (view (setRoot (slotAt s i) v h) .slots s i)
 unfolding view
 slot-now {h} F s i v a b = ap Value (sym (rw (
-  lt-ltb s 16 a,
-  lt-ltb i 32 b,
-  Rattle.keeps.proofs.Roots.root-at F (32 * s + i) v (omega arith) (32 * s + i),
-  eq-eqb (32 * s + i) (32 * s + i) refl,
+  lt-ltb s stackCount a,
+  lt-ltb i slotCount b,
+  Rattle.keeps.proofs.Roots.root-at F (slotCount * s + i) v (omega arith) (slotCount * s + i),
+  eq-eqb (slotCount * s + i) (slotCount * s + i) refl,
 )))
 
 -- what the theory takes from the audit
@@ -102,24 +102,24 @@ audit-view {h} F = record {
   grayMarked = λ w g. F .bits .grays w g .0;
   offUnmarked = λ e. F .phases .none (off-is (phase h) e);
   markSwept = λ m w. rw (not-unswept (F .spans) (F .phases) (two (rw (marking-is (phase h)) at m)) (spanOf (h .table) w))
-      (and-false (not (Rattle.model.specs.Spans.isFree (h .table) (w / 1024))));
+      (and-false (not (Rattle.model.specs.Spans.isFree (h .table) (w / pageWords))));
 }
   where
     two : T (eqb (phase h) 1) → phase h ≢ 2
     two m q = omega (arith, eqb-true (phase h) 1 (of-true _ m))
 
 -- what the view says of a slot, a stack, a global, the phase
-pub see-slot : (h : Heap) (s i : ℕ) → s < 16 → i < 32 → view h .slots s i ≡ slot h s i
+pub see-slot : (h : Heap) (s i : ℕ) → s < stackCount → i < slotCount → view h .slots s i ≡ slot h s i
 unfolding view
-see-slot h s i a b = rw (lt-ltb s 16 a, lt-ltb i 32 b)
+see-slot h s i a b = rw (lt-ltb s stackCount a, lt-ltb i slotCount b)
 
-pub see-open : (h : Heap) (s : ℕ) → s < 16 → state h s ≢ 0 → T (view h .opened s)
+pub see-open : (h : Heap) (s : ℕ) → s < stackCount → state h s ≢ 0 → T (view h .opened s)
 unfolding view
-see-open h s a d = rw (lt-ltb s 16 a, ne-eqb (state h s) 0 d) tt
+see-open h s a d = rw (lt-ltb s stackCount a, ne-eqb (state h s) 0 d) tt
 
-pub see-global : (h : Heap) (g : ℕ) → g < 32 → view h .globals g ≡ global h g
+pub see-global : (h : Heap) (g : ℕ) → g < globalCount → view h .globals g ≡ global h g
 unfolding view
-see-global h g a = rw (lt-ltb g 32 a)
+see-global h g a = rw (lt-ltb g globalCount a)
 
 pub see-phase : (h : Heap) {n : ℕ} → phase h ≡ n → view h .phase ≡ phaseOf n
 unfolding view

@@ -24,7 +24,7 @@ use Rattle.marking.specs.Count
 use Rattle.marking.proofs.Advance.{toMark-bound}
 use Rattle.marking.proofs.Allocated
 use Rattle.model.specs.Bounded.{countBelow}
-use Rattle.model.specs.Memory.{Heap, words, goodBuffers, wordOf, addressOf}
+use Rattle.model.specs.Memory.{Heap, words, goodBuffers, wordOf, addressOf, stackCount, slotCount, globalCount}
 use Rattle.model.specs.Answers.{_given_}
 use Rattle.model.specs.Bitmaps.{is, allocated}
 use Rattle.model.specs.Spans.{owner, startsSpan, isUnswept, elementWords, spanOf}
@@ -53,9 +53,9 @@ use Rattle.history.proofs.Progress.{begin-event, finishing, ending}
 matched : (h : Heap) {L : Ledger} {n : ℕ → ℕ} → Claim.MatchesLedger (view h) L → Reached (view h) L n → Audited h → Matches h L
 unfolding view wordsAt
 matched h {L} M N F = record {
-  stacks = λ s l. rw (lt-ltb s 16 l) at (M .opened s);
-  slots = λ s i l k. rw (lt-ltb s 16 l, lt-ltb i 32 k) at (M .slots s i);
-  globals = λ g l. rw (lt-ltb g 32 l) at (M .globals g);
+  stacks = λ s l. rw (lt-ltb s stackCount l) at (M .opened s);
+  slots = λ s i l k. rw (lt-ltb s stackCount l, lt-ltb i slotCount k) at (M .slots s i);
+  globals = λ g l. rw (lt-ltb g globalCount l) at (M .globals g);
   bit = M .allocated;
   inside = λ x f r l. omega (arith, N .agrees .describes .words x, element x r, whole (F .spans) (wordOf (L .address x)) (F .bits .element (wordOf (L .address x)) (M .allocated x r)), F .sized .arena);
   words = M .words;
@@ -258,8 +258,8 @@ module _ (P : ℕ) (h : Heap) (F : Audited (onPages P h)) (Fr : Fresh (view (onP
         (W .ends) x z k a;
     phases = run-of rs .audited .states .phase;
     begins = λ e. begin-event P (after h rs) (run-of rs .audited) e;
-    finishes = λ e. let x = finishing P (17 + allocatedIn (onPages P (after h rs))) (after h rs) (run-of rs .audited) (reached-at rs) e
-        (omega (arith, toMark-bound 16 (ledger h rs) (view (onPages P (after h rs))), records-counted (onPages P (after h rs)) (reached-at rs))) in
+    finishes = λ e. let x = finishing P (stackCount + 1 + allocatedIn (onPages P (after h rs))) (after h rs) (run-of rs .audited) (reached-at rs) e
+        (omega (arith, toMark-bound stackCount (ledger h rs) (view (onPages P (after h rs))), records-counted (onPages P (after h rs)) (reached-at rs))) in
         (x .calls, x .collects, x .short, x .finish);
     ends = λ e. let x = ending P P (after h rs) (run-of rs .audited) (reached-at rs) e
         (count-le P (λ s. startsSpan (after h rs .table) s && isUnswept (after h rs .table) s)) in (x .steps, x .few, x .end);

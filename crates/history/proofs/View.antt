@@ -14,7 +14,7 @@ use Rattle.marking.proofs.Updates.{update-is, update2-is}
 use Rattle.marking.specs.WordHeap.{Phase, off, mark, sweep, marking, ColourBits, Elements, heapAssign, heapPut, heapStart, heapEndCycle, WordHeap}
 use Rattle.marking.specs.WordHeap
 use Rattle.model.specs.Bounded.{firstBelow}
-use Rattle.model.specs.Memory.{Heap, withArena, withRoots, setRoot, slotAt, phase}
+use Rattle.model.specs.Memory.{Heap, withArena, withRoots, setRoot, slotAt, phase, stackCount, slotCount, globalCount, firstGlobal, firstState, globalsStateAt, phaseAt, rootWords, pageWords}
 use Rattle.model.specs.Bitmaps.{allocated, marked, gray, pointer, is}
 use Rattle.model.specs.Spans.{isFree, elementWords, spanOf}
 use Rattle.model.specs.Cycle.{scan}
@@ -28,7 +28,7 @@ phaseOf n = cond (eqb n 0) off (cond (eqb n 1) mark sweep)
 
 -- the span of word w is there and unswept
 unfoldable pub lateAt : List ℕ → ℕ → Bool
-lateAt t w = not (isFree t (w / 1024)) && unsweptAt t w
+lateAt t w = not (isFree t (w / pageWords)) && unsweptAt t w
 
 unfoldable pub wordsAt : List ℕ → ℕ → ℕ
 wordsAt t w = elementWords t (spanOf t w)
@@ -47,19 +47,19 @@ abbrev pub coloursOf : (P : ℕ) → List ℕ → List ℕ → ColourBits
 coloursOf P b r = record {
   marked = bit P marked b;
   gray = bit P gray b;
-  grayGlobals = eqb (getD r 560 0) 2;
-  grayStack = λ s. ltb s 16 && eqb (getD r (544 + s) 0) 2;
+  grayGlobals = eqb (getD r globalsStateAt 0) 2;
+  grayStack = λ s. ltb s stackCount && eqb (getD r (firstState + s) 0) 2;
 }
 
 abbrev pub slotsOf : List ℕ → ℕ → ℕ → ℕ
-slotsOf r = λ s i. cond (ltb s 16 && ltb i 32) (getD r (32 * s + i) 0) 0
+slotsOf r = λ s i. cond (ltb s stackCount && ltb i slotCount) (getD r (slotCount * s + i) 0) 0
 
 abbrev pub globalsOf : List ℕ → ℕ → ℕ
-globalsOf r = λ g. cond (ltb g 32) (getD r (512 + g) 0) 0
+globalsOf r = λ g. cond (ltb g globalCount) (getD r (firstGlobal + g) 0) 0
 
 -- a test of the stacks' states
 abbrev pub states : (ℕ → Bool) → List ℕ → ℕ → Bool
-states f r = λ s. ltb s 16 && f (getD r (544 + s) 0)
+states f r = λ s. ltb s stackCount && f (getD r (firstState + s) 0)
 
 unfoldable pub view : Heap → WordHeap
 view h = record {
@@ -71,7 +71,7 @@ view h = record {
   slots = slotsOf (h .roots);
   globals = globalsOf (h .roots);
   opened = states (λ x. not (eqb x 0)) (h .roots);
-  phase = phaseOf (getD (h .roots) 561 0);
+  phase = phaseOf (getD (h .roots) phaseAt 0);
 }
 
 -- equal parts make equal heaps
@@ -92,98 +92,98 @@ marking-is n = go (eqb n 0) refl (eqb n 1) refl
     go false e false f = refl
 
 -- the parts of the roots, where they are the same
-pub slots-same : (l k : List ℕ) → ((x : ℕ) → x < 512 → getD l x 0 ≡ getD k x 0) → slotsOf l ≡ slotsOf k
-slots-same l k f = fun-ext (λ t. fun-ext (λ i. go t i (ltb t 16) refl (ltb i 32) refl))
+pub slots-same : (l k : List ℕ) → ((x : ℕ) → x < firstGlobal → getD l x 0 ≡ getD k x 0) → slotsOf l ≡ slotsOf k
+slots-same l k f = fun-ext (λ t. fun-ext (λ i. go t i (ltb t stackCount) refl (ltb i slotCount) refl))
   where
-    go : (t i : ℕ) (p : Bool) → ltb t 16 ≡ p → (q : Bool) → ltb i 32 ≡ q → cond (p && q) (getD l (32 * t + i) 0) 0 ≡ cond (p && q) (getD k (32 * t + i) 0) 0
-    go t i true e true g = f (32 * t + i) (omega (arith, ltb-true t 16 e, ltb-true i 32 g))
+    go : (t i : ℕ) (p : Bool) → ltb t stackCount ≡ p → (q : Bool) → ltb i slotCount ≡ q → cond (p && q) (getD l (slotCount * t + i) 0) 0 ≡ cond (p && q) (getD k (slotCount * t + i) 0) 0
+    go t i true e true g = f (slotCount * t + i) (omega (arith, ltb-true t stackCount e, ltb-true i slotCount g))
     go t i true e false g = refl
     go t i false e q g = refl
 
-pub globals-same : (l k : List ℕ) → ((x : ℕ) → 512 ≤ x → x < 544 → getD l x 0 ≡ getD k x 0) → globalsOf l ≡ globalsOf k
-globals-same l k f = fun-ext (λ g. go g (ltb g 32) refl)
+pub globals-same : (l k : List ℕ) → ((x : ℕ) → firstGlobal ≤ x → x < firstState → getD l x 0 ≡ getD k x 0) → globalsOf l ≡ globalsOf k
+globals-same l k f = fun-ext (λ g. go g (ltb g globalCount) refl)
   where
-    go : (g : ℕ) (p : Bool) → ltb g 32 ≡ p → cond p (getD l (512 + g) 0) 0 ≡ cond p (getD k (512 + g) 0) 0
-    go g true e = f (512 + g) (omega arith) (omega (arith, ltb-true g 32 e))
+    go : (g : ℕ) (p : Bool) → ltb g globalCount ≡ p → cond p (getD l (firstGlobal + g) 0) 0 ≡ cond p (getD k (firstGlobal + g) 0) 0
+    go g true e = f (firstGlobal + g) (omega arith) (omega (arith, ltb-true g globalCount e))
     go g false e = refl
 
-pub states-same : (t : ℕ → Bool) (l k : List ℕ) → ((x : ℕ) → 544 ≤ x → x < 560 → getD l x 0 ≡ getD k x 0) → states t l ≡ states t k
-states-same t l k f = fun-ext (λ s. go s (ltb s 16) refl)
+pub states-same : (t : ℕ → Bool) (l k : List ℕ) → ((x : ℕ) → firstState ≤ x → x < globalsStateAt → getD l x 0 ≡ getD k x 0) → states t l ≡ states t k
+states-same t l k f = fun-ext (λ s. go s (ltb s stackCount) refl)
   where
-    go : (s : ℕ) (p : Bool) → ltb s 16 ≡ p → (p && t (getD l (544 + s) 0)) ≡ (p && t (getD k (544 + s) 0))
-    go s true e = ap t (f (544 + s) (omega arith) (omega (arith, ltb-true s 16 e)))
+    go : (s : ℕ) (p : Bool) → ltb s stackCount ≡ p → (p && t (getD l (firstState + s) 0)) ≡ (p && t (getD k (firstState + s) 0))
+    go s true e = ap t (f (firstState + s) (omega arith) (omega (arith, ltb-true s stackCount e)))
     go s false e = refl
 
 -- .. after one state became v
-pub state-set : (f : ℕ → Bool) (l : List ℕ) (s v : ℕ) (b : Bool) → length l ≡ 562 → s < 16 → f v ≡ b → states f (set l (544 + s) v) ≡ update (states f l) s b
-state-set f l s v b z h e = fun-ext (λ t. rw (set-at l (544 + s) v (omega arith) (544 + t), eqb-shift 544 t s, update-is (states f l) s b t) (go t (eqb t s) refl))
+pub state-set : (f : ℕ → Bool) (l : List ℕ) (s v : ℕ) (b : Bool) → length l ≡ rootWords → s < stackCount → f v ≡ b → states f (set l (firstState + s) v) ≡ update (states f l) s b
+state-set f l s v b z h e = fun-ext (λ t. rw (set-at l (firstState + s) v (omega arith) (firstState + t), eqb-shift firstState t s, update-is (states f l) s b t) (go t (eqb t s) refl))
   where
-    go : (t : ℕ) (c : Bool) → eqb t s ≡ c → (ltb t 16 && f (cond c v (getD l (544 + t) 0))) ≡ cond c b (ltb t 16 && f (getD l (544 + t) 0))
-    go t true p = rw (eqb-true t s p, lt-ltb s 16 h, e)
+    go : (t : ℕ) (c : Bool) → eqb t s ≡ c → (ltb t stackCount && f (cond c v (getD l (firstState + t) 0))) ≡ cond c b (ltb t stackCount && f (getD l (firstState + t) 0))
+    go t true p = rw (eqb-true t s p, lt-ltb s stackCount h, e)
     go t false p = refl
 
 -- .. after one slot became v
-pair : (t j s i : ℕ) → j < 32 → i < 32 → eqb (32 * t + j) (32 * s + i) ≡ (eqb t s && eqb j i)
+pair : (t j s i : ℕ) → j < slotCount → i < slotCount → eqb (slotCount * t + j) (slotCount * s + i) ≡ (eqb t s && eqb j i)
 pair t j s i h k = go (eqb t s) refl (eqb j i) refl
   where
-    go : (a : Bool) → eqb t s ≡ a → (b : Bool) → eqb j i ≡ b → eqb (32 * t + j) (32 * s + i) ≡ (a && b)
-    go true p true q = eq-eqb (32 * t + j) (32 * s + i) (omega (arith, eqb-true t s p, eqb-true j i q))
-    go true p false q = ne-eqb (32 * t + j) (32 * s + i) (λ x. eqb-false j i q (omega (arith, eqb-true t s p)))
-    go false p b q = ne-eqb (32 * t + j) (32 * s + i) (λ x. eqb-false t s p (omega arith))
+    go : (a : Bool) → eqb t s ≡ a → (b : Bool) → eqb j i ≡ b → eqb (slotCount * t + j) (slotCount * s + i) ≡ (a && b)
+    go true p true q = eq-eqb (slotCount * t + j) (slotCount * s + i) (omega (arith, eqb-true t s p, eqb-true j i q))
+    go true p false q = ne-eqb (slotCount * t + j) (slotCount * s + i) (λ x. eqb-false j i q (omega (arith, eqb-true t s p)))
+    go false p b q = ne-eqb (slotCount * t + j) (slotCount * s + i) (λ x. eqb-false t s p (omega arith))
 
-pub slot-set : (r : List ℕ) (s i v : ℕ) → length r ≡ 562 → s < 16 → i < 32 → slotsOf (set r (32 * s + i) v) ≡ update2 (slotsOf r) s i v
+pub slot-set : (r : List ℕ) (s i v : ℕ) → length r ≡ rootWords → s < stackCount → i < slotCount → slotsOf (set r (slotCount * s + i) v) ≡ update2 (slotsOf r) s i v
 slot-set r s i v z h k =
-    fun-ext (λ t. fun-ext (λ j. rw (set-at r (32 * s + i) v (omega arith) (32 * t + j), update2-is (slotsOf r) s i v t j) (go t j (ltb t 16) refl (ltb j 32) refl)))
+    fun-ext (λ t. fun-ext (λ j. rw (set-at r (slotCount * s + i) v (omega arith) (slotCount * t + j), update2-is (slotsOf r) s i v t j) (go t j (ltb t stackCount) refl (ltb j slotCount) refl)))
   where
-    go : (t j : ℕ) (a : Bool) → ltb t 16 ≡ a → (b : Bool) → ltb j 32 ≡ b →
-        cond (a && b) (cond (eqb (32 * t + j) (32 * s + i)) v (getD r (32 * t + j) 0)) 0 ≡ cond (eqb t s && eqb j i) v (cond (a && b) (getD r (32 * t + j) 0) 0)
-    go t j true p true q = rw (pair t j s i (ltb-true j 32 q) k)
-    go t j true p false q = rw (ne-eqb j i (λ x. absurd (omega (arith, ltb-false j 32 q))), and-false (eqb t s))
-    go t j false p b q = rw (ne-eqb t s (λ x. absurd (omega (arith, ltb-false t 16 p))))
+    go : (t j : ℕ) (a : Bool) → ltb t stackCount ≡ a → (b : Bool) → ltb j slotCount ≡ b →
+        cond (a && b) (cond (eqb (slotCount * t + j) (slotCount * s + i)) v (getD r (slotCount * t + j) 0)) 0 ≡ cond (eqb t s && eqb j i) v (cond (a && b) (getD r (slotCount * t + j) 0) 0)
+    go t j true p true q = rw (pair t j s i (ltb-true j slotCount q) k)
+    go t j true p false q = rw (ne-eqb j i (λ x. absurd (omega (arith, ltb-false j slotCount q))), and-false (eqb t s))
+    go t j false p b q = rw (ne-eqb t s (λ x. absurd (omega (arith, ltb-false t stackCount p))))
 
 -- a slot is set
-pub slot-view : {h : Heap} → Audited h → (s i v : ℕ) → s < 16 → i < 32 → view (setRoot (slotAt s i) v h) ≡ heapAssign s i v (view h)
+pub slot-view : {h : Heap} → Audited h → (s i v : ℕ) → s < stackCount → i < slotCount → view (setRoot (slotAt s i) v h) ≡ heapAssign s i v (view h)
 unfolding view heapAssign
 slot-view {h} F s i v l k = heap-eq refl refl refl refl
-    (colours-eq refl refl (rw (rest 560 (omega arith))) (fun-ext (λ t. rw (rest (544 + t) (omega arith)))))
+    (colours-eq refl refl (rw (rest globalsStateAt (omega arith))) (fun-ext (λ t. rw (rest (firstState + t) (omega arith)))))
     (slot-set (h .roots) s i v (F .sized .roots) l k)
-    (fun-ext (λ g. rw (rest (512 + g) (omega arith))))
-    (fun-ext (λ t. rw (rest (544 + t) (omega arith))))
-    (ap phaseOf (rest 561 (omega arith)))
+    (fun-ext (λ g. rw (rest (firstGlobal + g) (omega arith))))
+    (fun-ext (λ t. rw (rest (firstState + t) (omega arith))))
+    (ap phaseOf (rest phaseAt (omega arith)))
   where
-    rest : (x : ℕ) → 512 ≤ x → getD (set (h .roots) (32 * s + i) v) x 0 ≡ getD (h .roots) x 0
-    rest x a = root-other F (32 * s + i) v (omega arith) x (omega arith)
+    rest : (x : ℕ) → firstGlobal ≤ x → getD (set (h .roots) (slotCount * s + i) v) x 0 ≡ getD (h .roots) x 0
+    rest x a = root-other F (slotCount * s + i) v (omega arith) x (omega arith)
 
 -- a number is put
-pub put-view : {h : Heap} → Audited h → (w v : ℕ) → w < 1024 * h .pages → view (withArena (set (h .arena) w v) h) ≡ heapPut w v (view h)
+pub put-view : {h : Heap} → Audited h → (w v : ℕ) → w < pageWords * h .pages → view (withArena (set (h .arena) w v) h) ≡ heapPut w v (view h)
 unfolding view heapPut
 put-view {h} F w v l = heap-eq (arena-set h F w v l) refl refl refl refl refl refl refl refl
   where
-    arena-set : (h : Heap) → Audited h → (w v : ℕ) → w < 1024 * h .pages → (λ (x : ℕ). getD (set (h .arena) w v) x 0) ≡ update (λ (x : ℕ). getD (h .arena) x 0) w v
+    arena-set : (h : Heap) → Audited h → (w v : ℕ) → w < pageWords * h .pages → (λ (x : ℕ). getD (set (h .arena) w v) x 0) ≡ update (λ (x : ℕ). getD (h .arena) x 0) w v
     arena-set h F w v l = fun-ext (λ x. set-at (h .arena) w v (omega (arith, F .sized .arena)) x ∙ sym (update-is (λ (x : ℕ). getD (h .arena) x 0) w v x))
 
 -- the end of a cycle
-pub end-view : {h : Heap} → Audited h → view (setRoot 561 0 h) ≡ heapEndCycle (view h)
+pub end-view : {h : Heap} → Audited h → view (setRoot phaseAt 0 h) ≡ heapEndCycle (view h)
 unfolding view heapEndCycle
 end-view {h} F = heap-eq refl refl refl refl
-    (colours-eq refl refl (rw (rest 560 (omega arith))) (states-same (λ x. eqb x 2) (set (h .roots) 561 0) (h .roots) (λ x b c. rest x (omega arith))))
-    (slots-same (set (h .roots) 561 0) (h .roots) (λ x l. rest x (omega arith)))
-    (globals-same (set (h .roots) 561 0) (h .roots) (λ x b c. rest x (omega arith)))
-    (states-same (λ x. not (eqb x 0)) (set (h .roots) 561 0) (h .roots) (λ x b c. rest x (omega arith)))
-    (ap phaseOf (root-at F 561 0 (omega arith) 561))
+    (colours-eq refl refl (rw (rest globalsStateAt (omega arith))) (states-same (λ x. eqb x 2) (set (h .roots) phaseAt 0) (h .roots) (λ x b c. rest x (omega arith))))
+    (slots-same (set (h .roots) phaseAt 0) (h .roots) (λ x l. rest x (omega arith)))
+    (globals-same (set (h .roots) phaseAt 0) (h .roots) (λ x b c. rest x (omega arith)))
+    (states-same (λ x. not (eqb x 0)) (set (h .roots) phaseAt 0) (h .roots) (λ x b c. rest x (omega arith)))
+    (ap phaseOf (root-at F phaseAt 0 (omega arith) phaseAt))
   where
-    rest : (x : ℕ) → x ≢ 561 → getD (set (h .roots) 561 0) x 0 ≡ getD (h .roots) x 0
-    rest = root-other F 561 0 (omega arith)
+    rest : (x : ℕ) → x ≢ phaseAt → getD (set (h .roots) phaseAt 0) x 0 ≡ getD (h .roots) x 0
+    rest = root-other F phaseAt 0 (omega arith)
 
 -- start
 pub start-view : {h : Heap} → Audited h → view (withRoots (started h) h) ≡ heapStart (view h)
 unfolding view heapStart
 start-view {h} F = heap-eq refl refl refl refl
-    (colours-eq refl refl (rw (started-at F 560)) (fun-ext (λ t. gray′ t (ltb t 16) refl)))
+    (colours-eq refl refl (rw (started-at F globalsStateAt)) (fun-ext (λ t. gray′ t (ltb t stackCount) refl)))
     (slots-same (started h) (h .roots) (λ x l. started-low F x (omega arith)))
     (globals-same (started h) (h .roots) (λ x l k. started-low F x (omega arith)))
-    (fun-ext (λ t. op t (ltb t 16) refl))
-    (rw (started-at F 561))
+    (fun-ext (λ t. op t (ltb t stackCount) refl))
+    (rw (started-at F phaseAt))
   where
     two : (b : Bool) → eqb (cond b 0 2) 2 ≡ not b
     two true = refl
@@ -193,10 +193,10 @@ start-view {h} F = heap-eq refl refl refl refl
     nil true = refl
     nil false = refl
 
-    gray′ : (t : ℕ) (p : Bool) → ltb t 16 ≡ p → (p && eqb (getD (started h) (544 + t) 0) 2) ≡ (p && not (eqb (getD (h .roots) (544 + t) 0) 0))
-    gray′ t true e = rw (started-state F t (ltb-true t 16 e)) (two (eqb (getD (h .roots) (544 + t) 0) 0))
+    gray′ : (t : ℕ) (p : Bool) → ltb t stackCount ≡ p → (p && eqb (getD (started h) (firstState + t) 0) 2) ≡ (p && not (eqb (getD (h .roots) (firstState + t) 0) 0))
+    gray′ t true e = rw (started-state F t (ltb-true t stackCount e)) (two (eqb (getD (h .roots) (firstState + t) 0) 0))
     gray′ t false e = refl
 
-    op : (t : ℕ) (p : Bool) → ltb t 16 ≡ p → (p && not (eqb (getD (started h) (544 + t) 0) 0)) ≡ (p && not (eqb (getD (h .roots) (544 + t) 0) 0))
-    op t true e = rw (started-state F t (ltb-true t 16 e)) (nil (eqb (getD (h .roots) (544 + t) 0) 0))
+    op : (t : ℕ) (p : Bool) → ltb t stackCount ≡ p → (p && not (eqb (getD (started h) (firstState + t) 0) 0)) ≡ (p && not (eqb (getD (h .roots) (firstState + t) 0) 0))
+    op t true e = rw (started-state F t (ltb-true t stackCount e)) (nil (eqb (getD (h .roots) (firstState + t) 0) 0))
     op t false e = refl

@@ -15,9 +15,9 @@ use Rattle.marking.specs.WordHeap.{Elements, Alike, heapAllocate, heapSweep, Le
 use Rattle.marking.specs.Ledger.{Event}
 use Rattle.marking.specs.Trace.{Step}
 use Rattle.marking.specs.Trace
-use Rattle.model.specs.Memory.{Heap, withTable, addressOf, phase}
+use Rattle.model.specs.Memory.{Heap, withTable, addressOf, phase, stackCount, slotCount, firstGlobal, firstState, globalsStateAt, phaseAt, pageWords}
 use Rattle.model.specs.Bitmaps.{allocated, marked, gray, pointer, is}
-use Rattle.model.specs.Spans.{owner, pageCount, kindEntry, isFree, elementWords, elementStart, spanOf, elementOf}
+use Rattle.model.specs.Spans.{owner, pageCount, kindEntry, isFree, elementWords, elementStart, spanOf, elementOf, unsweptFlag}
 use Rattle.model.specs.Cycle.{sweptTable}
 use Rattle.model.proofs.Tests.{of-true}
 use Rattle.model.proofs.Bounded.{within, within-yes, within-low, within-high, first-is, first-cong}
@@ -40,7 +40,7 @@ unfolding runFrom
 run-is p w n r h f g = first-is n (λ k. not (p (w + k))) r (record { within = h; before = λ k l. ap not (f k l); holds = λ l. ap not (g l) })
 
 -- an allocation: h₀ is the heap before, h the heap with the table that the element's span stands in
-module _ {h₀ : Heap} {u : List ℕ} {w n p : ℕ} (F₀ : Audited h₀) (C : Choice h₀ u w n p) (s i : ℕ) (hs : s < 16) (hi : i < 32) where
+module _ {h₀ : Heap} {u : List ℕ} {w n p : ℕ} (F₀ : Audited h₀) (C : Choice h₀ u w n p) (s i : ℕ) (hs : s < stackCount) (hi : i < slotCount) where
   abbrev h : Heap
   h = withTable u h₀
 
@@ -80,19 +80,19 @@ module _ {h₀ : Heap} {u : List ℕ} {w n p : ℕ} (F₀ : Audited h₀) (C : C
   E : Elements
   E = elementsOf u (is pointer after)
 
-  rest : (x : ℕ) → 512 ≤ x → getD (after .roots) x 0 ≡ getD (h₀ .roots) x 0
-  rest x l = Rattle.keeps.proofs.Roots.root-other F₀ (32 * s + i) (addressOf w) (omega arith) x (omega arith)
+  rest : (x : ℕ) → firstGlobal ≤ x → getD (after .roots) x 0 ≡ getD (h₀ .roots) x 0
+  rest x l = Rattle.keeps.proofs.Roots.root-other F₀ (slotCount * s + i) (addressOf w) (omega arith) x (omega arith)
 
   -- the view of the result is the theory's new heap
   is-new : view after ≡ heapAllocate s i w (λ x. getD (after .arena) x 0) (elementsOf u (is pointer after)) (lateAt u) (view h₀)
   unfolding view heapAllocate
   is-new = heap-eq refl (fun-ext (λ v. rw (a-at v, update-is (is allocated h₀) w true v))) refl refl
-      (colours-eq (rw (marking-is (phase h₀)) (marks (eqb (phase h₀) 1) refl)) (fun-ext g-at) (rw (rest 560 (omega arith)))
-      (fun-ext (λ x. rw (rest (544 + x) (omega arith)))))
+      (colours-eq (rw (marking-is (phase h₀)) (marks (eqb (phase h₀) 1) refl)) (fun-ext g-at) (rw (rest globalsStateAt (omega arith)))
+      (fun-ext (λ x. rw (rest (firstState + x) (omega arith)))))
       (slot-set (h₀ .roots) s i (addressOf w) (F₀ .sized .roots) hs hi)
-      (fun-ext (λ g. rw (rest (512 + g) (omega arith))))
-      (fun-ext (λ x. rw (rest (544 + x) (omega arith))))
-      (ap phaseOf (rest 561 (omega arith)))
+      (fun-ext (λ g. rw (rest (firstGlobal + g) (omega arith))))
+      (fun-ext (λ x. rw (rest (firstState + x) (omega arith))))
+      (ap phaseOf (rest phaseAt (omega arith)))
     where
       marks : (b : Bool) → eqb (phase h₀) 1 ≡ b → is marked after ≡ cond b (update (is marked h₀) w true) (is marked h₀)
       marks true e = fun-ext (λ v. rw (m-at v, e, update-is (is marked h₀) w true v))
@@ -104,7 +104,7 @@ module _ {h₀ : Heap} {u : List ℕ} {w n p : ℕ} (F₀ : Audited h₀) (C : C
   pointers : p ≤ n
   pointers = rw long at (S .pointers)
 
-  here-w : (v : ℕ) → w ≤ v → v < w + n → (owner u (v / 1024) ≡ r + 1) × (spanOf u v ≡ r) × (elementOf u v ≡ w)
+  here-w : (v : ℕ) → w ≤ v → v < w + n → (owner u (v / pageWords) ≡ r + 1) × (spanOf u v ≡ r) × (elementOf u v ≡ w)
   here-w v x y = rw start at (here (C .spans) (C .bits) S v (rw start x) (rw (start, long) y))
 
   clear-w : (v : ℕ) → T (is allocated h₀ v) → (v + elementWords u (spanOf u v) ≤ w) ⊎ (w + n ≤ v)
@@ -139,13 +139,13 @@ module _ {h₀ : Heap} {u : List ℕ} {w n p : ℕ} (F₀ : Audited h₀) (C : C
 
   not-late : lateAt u w ≡ false
   unfolding lateAt
-  not-late = rw (here-w w (omega arith) (omega (arith, some)) .1, lt-leb 256 (kindEntry u r) (S .swept)) (and-false (not (isFree u (w / 1024))))
+  not-late = rw (here-w w (omega arith) (omega (arith, some)) .1, lt-leb unsweptFlag (kindEntry u r) (S .swept)) (and-false (not (isFree u (w / pageWords))))
 
   lates : (v : ℕ) → T (is allocated h₀ v) → lateAt u v ≡ lateAt (h₀ .table) v
   unfolding lateAt
   lates v x = rw (C .flags v x, C .used v x)
 
-  pub taken-step : LegalColours (view h₀) → T (view h₀ .opened s) → Step (view h₀) (Event.allocate s i p n (8192 + 8 * w)) (view (taken s i w n p (withTable u h₀)))
+  pub taken-step : LegalColours (view h₀) → T (view h₀ .opened s) → Step (view h₀) (Event.allocate s i p n (addressOf w)) (view (taken s i w n p (withTable u h₀)))
   unfolding view wordsAt
   taken-step A o =
       rw is-new (Trace.Step.allocate s i p n w (λ x. getD (after .arena) x 0) (elementsOf u (is pointer after)) (lateAt u) A o hi apart
@@ -162,10 +162,10 @@ module _ {h₀ : Heap} {u : List ℕ} {w n p : ℕ} (F₀ : Audited h₀) (C : C
       alone v (inr x) = rw (word-at v, within-high w n v x)
 
 -- a sweep step on the unswept span at page s
-module _ {h : Heap} (F : Audited h) (s : ℕ) (span : IsSpan (h .table) s) (unswept : 256 ≤ kindEntry (h .table) s) where
+module _ {h : Heap} (F : Audited h) (s : ℕ) (span : IsSpan (h .table) s) (unswept : unsweptFlag ≤ kindEntry (h .table) s) where
   -- the words that are swept
   abbrev q : ℕ → Bool
-  q = within (1024 * s) (1024 * pageCount (h .table) s)
+  q = within (pageWords * s) (pageWords * pageCount (h .table) s)
 
   abbrev then : Heap
   then = swept s h
@@ -178,7 +178,7 @@ module _ {h : Heap} (F : Audited h) (s : ℕ) (span : IsSpan (h .table) s) (unsw
 
   was-late′ : (w : ℕ) → T (is allocated h w) → T (q w) → lateAt (h .table) w ≡ true
   unfolding lateAt
-  was-late′ w a x = rw (was-late F s span unswept w (of-true _ x), ne-eqb (owner (h .table) (w / 1024)) 0 (omega (arith, F .bits .element w a .lies .used)))
+  was-late′ w a x = rw (was-late F s span unswept w (of-true _ x), ne-eqb (owner (h .table) (w / pageWords)) 0 (omega (arith, F .bits .element w a .lies .used)))
 
   stay-alike : (w : ℕ) → T (cond (q w) (is marked h w) (is allocated h w)) → Alike (elementsOf (sweptTable h s) (is pointer then)) (elementsOf (h .table) (is pointer h)) w
   unfolding scansAt wordsAt

@@ -12,7 +12,7 @@ use Rattle.marking.specs.Ledger.{Ledger, Event, Each, feedAll, lastBorn}
 use Rattle.marking.specs.Claim.{workIn}
 use Rattle.marking.specs.Survivors.{Saved}
 use Rattle.model.specs.Bounded.{countBelow}
-use Rattle.model.specs.Memory.{Heap, words, phase, wordOf}
+use Rattle.model.specs.Memory.{Heap, words, phase, wordOf, stackCount}
 use Rattle.model.specs.Bitmaps.{is, allocated, marked}
 use Rattle.model.specs.Calls.{Start, ScanGlobals, MarkStep, Finish, SweepStep, ScanStack, Request, step, after}
 use Rattle.history.specs.Ledger.{refusal, onPages}
@@ -104,5 +104,5 @@ pub record Beyond (P : ℕ) (h : Heap) (rs : List Request) : Type 0 where
   pub phases : phase (after h rs) ≤ 2
   pub begins : phase (after h rs) ≡ 0 → eventOn (after h rs) (startOf P) ≡ Event.start
   pub finishes : phase (after h rs) ≡ 1 →
-      (cs : List Request) × Collects P cs × (length cs ≤ 17 + allocatedIn (onPages P (after h rs))) × (eventOn (after (after h rs) cs) (finishOf P) ≡ Event.finish)
+      (cs : List Request) × Collects P cs × (length cs ≤ stackCount + 1 + allocatedIn (onPages P (after h rs))) × (eventOn (after (after h rs) cs) (finishOf P) ≡ Event.finish)
   pub ends : phase (after h rs) ≡ 2 → (k : ℕ) × (k ≤ P) × (eventOn (after (after h rs) (replicate k (sweepOf P))) (sweepOf P) ≡ Event.endCycle)

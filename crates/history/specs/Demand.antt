@@ -14,7 +14,7 @@ use lib.ListN.{length}
 use lib.Dec.{T, eqb}
 use Rattle.marking.specs.Effect.{lasting, inCycle, isSweep, turnedOff}
 use Rattle.marking.specs.Ledger.{Ledger, Event, effect, Each, empty, feed, feedAll, value, word as ledgerWord, Reachable, lastBorn}
-use Rattle.model.specs.Memory.{Heap, word, slot, global, state, wordOf, addressOf}
+use Rattle.model.specs.Memory.{Heap, word, slot, global, state, wordOf, addressOf, stackCount, slotCount, globalCount}
 use Rattle.model.specs.Bitmaps.{is, allocated}
 use Rattle.model.specs.Spans.{owner, pageCount, kindEntry}
 use Rattle.model.specs.Calls.{Call, Setup, Audit, Start, ScanGlobals, MarkStep, Finish, SweepStep, Open, Close, ScanStack, Clear, Copy, Get, LoadGlobal, StoreGlobal, Allocate, Load, Store, Put, Request, step, sweepsOf, after}
@@ -97,9 +97,9 @@ heapAfter P p = onPages P (p .here .heap)
 -- "After the list the same stacks are open as in the ledger and every slot and global equals the ledger's; each reachable record has its
 -- allocated bit set, its words from its address on equal the ledger's, and no two such records share a word."
 pub record Matches (h : Heap) (L : Ledger) : Type 0 where
-  pub stacks : (s : ℕ) → s < 16 → not (eqb (state h s) 0) ≡ L .opened s
-  pub slots : (s i : ℕ) → s < 16 → i < 32 → slot h s i ≡ value L (L .slot s i)
-  pub globals : (g : ℕ) → g < 32 → global h g ≡ value L (L .global g)
+  pub stacks : (s : ℕ) → s < stackCount → not (eqb (state h s) 0) ≡ L .opened s
+  pub slots : (s i : ℕ) → s < stackCount → i < slotCount → slot h s i ≡ value L (L .slot s i)
+  pub globals : (g : ℕ) → g < globalCount → global h g ≡ value L (L .global g)
   pub bit : (x : ℕ) → Reachable L x → T (is allocated h (wordOf (L .address x)))
   -- "its words from its address on": words of the arena, and equal
   pub inside : (x f : ℕ) → Reachable L x → f < L .words x → wordOf (L .address x) + f < length (h .arena)

@@ -9,10 +9,10 @@ use lib.ListN.{getD}
 use lib.Dec.{T, eqb, ltb, leb, ltb→lt, leb→le}
 use borrow.Author.Tests.{ltb-true, eqb-true, not-true}
 use Rattle.model.specs.Bounded.{firstBelow}
-use Rattle.model.specs.Memory.{Heap, withTable, wordOf, phase, state, firstWord}
+use Rattle.model.specs.Memory.{Heap, withTable, wordOf, phase, state, firstWord, stackCount, slotCount, pageWords}
 use Rattle.model.specs.Bitmaps.{allocated, is}
 use Rattle.model.specs.Classes.{classOf, kindOf, pagesFor, elementWordsOf}
-use Rattle.model.specs.Spans.{owner, kindEntry, isFree, elementWords, elements, elementStart, spanOf, elementOf, putPages, spanPage}
+use Rattle.model.specs.Spans.{owner, kindEntry, isFree, elementWords, elements, elementStart, spanOf, elementOf, putPages, spanPage, unsweptFlag}
 use Rattle.model.specs.Allocate.{freeElement, hasRoom, spanWithRoom, runLength, isRun, isShortest, bestRun, roomFor, newWord, newTable}
 use Rattle.model.proofs.Tests.{is-true, and-iff}
 use Rattle.model.proofs.Bounded.{first-props}
@@ -37,13 +37,13 @@ pub record Choice (h : Heap) (u : List ℕ) (w n p : ℕ) : Type 0 where
   pub phases : Phases (h .pages) (phase h) u (h .bits)
   pub references : References (withTable u h)
   pub occupied : (x : ℕ) → IsSpan u x → x ≢ span → (v : ℕ) × T (is allocated h v) × (spanOf u v ≡ x)
-  pub used : (v : ℕ) → T (is allocated h v) → owner u (v / 1024) ≡ owner (h .table) (v / 1024)
+  pub used : (v : ℕ) → T (is allocated h v) → owner u (v / pageWords) ≡ owner (h .table) (v / pageWords)
   pub scans : (v : ℕ) → T (is allocated h v) → scanAt u v ≡ scanAt (h .table) v
   pub long : (v : ℕ) → T (is allocated h v) → elementWords u (spanOf u v) ≡ elementWords (h .table) (spanOf (h .table) v)
   pub flags : (v : ℕ) → T (is allocated h v) → unsweptAt u v ≡ unsweptAt (h .table) v
 
 -- to take it keeps the audit
-pub chosen-kept : {h : Heap} {u : List ℕ} {w n p : ℕ} → Audited h → Choice h u w n p → (s i : ℕ) → s < 16 → i < 32 → state h s ≢ 0 →
+pub chosen-kept : {h : Heap} {u : List ℕ} {w n p : ℕ} → Audited h → Choice h u w n p → (s i : ℕ) → s < stackCount → i < slotCount → state h s ≢ 0 →
     Audited (taken s i w n p (withTable u h))
 chosen-kept {h} {u} {w} {n} {p} F C s i hs hi o =
     rw (C .word, C .words) at (taken-kept {h = withTable u h} (C .sized) (C .spans) (C .bits) (C .chosen) s i hs hi (C .phases) (C .references) (F .states) o (C .occupied))
@@ -96,7 +96,7 @@ module _ {h : Heap} (F : Audited h) {r n kind : ℕ} (Q : Vacant (h .pages) (h .
     unswept = λ e v m. rw (flags v (F .bits .marks v m)) (F .phases .unswept e v m);
   }
     where
-      swept : phase h ≢ 2 → (x : ℕ) → ((x ≡ r) ⊎ IsSpan t x) → kindEntry u x < 256
+      swept : phase h ≢ 2 → (x : ℕ) → ((x ≡ r) ⊎ IsSpan t x) → kindEntry u x < unsweptFlag
       swept d x (inl e) = rw (e, new-entry (F .sized .table) (F .spans) Q .1) (Q .swept)
       swept d x (inr e) = rw (used-same (F .sized .table) (F .spans) Q x (omega arith) .2) (F .phases .swept d x e)
 
@@ -119,8 +119,8 @@ module _ {h : Heap} (F : Audited h) {r n kind : ℕ} (Q : Vacant (h .pages) (h .
       go (inl p) = absurd (d p)
       go (inr p) = let f = F .occupied x p in (f .0, f .1, carve-like (F .sized .table) (F .spans) Q (f .0) (F .bits .element (f .0) (f .1) .lies .used) .at ∙ f .2)
 
-  pub new-choice : (p : ℕ) → eqb (kind % 256 % 2) 0 ≡ ltb 0 p → p ≤ elementWordsOf (kind % 256 / 2) n →
-      Choice h (putPages r n (spanPage r n kind) (h .table)) (firstWord r) (elementWordsOf (kind % 256 / 2) n) p
+  pub new-choice : (p : ℕ) → eqb (kind % unsweptFlag % 2) 0 ≡ ltb 0 p → p ≤ elementWordsOf (kind % unsweptFlag / 2) n →
+      Choice h (putPages r n (spanPage r n kind) (h .table)) (firstWord r) (elementWordsOf (kind % unsweptFlag / 2) n) p
   new-choice p sc l = record {
     span = r;
     number = 0;
@@ -160,7 +160,7 @@ found {h} F size p K r ok =
       record {
         span = span;
         swept = rw e (omega (arith, K .kind));
-        scan = rw e (let z : kindOf size p % 256 % 2 ≡ kindOf size p % 2 = omega (arith, K .kind) in rw z (K .scan));
+        scan = rw e (let z : kindOf size p % unsweptFlag % 2 ≡ kindOf size p % 2 = omega (arith, K .kind) in rw z (K .scan));
         number = x .2;
         pointers = rw (← w) (K .pointers);
         free = free r (x .2);
@@ -187,7 +187,7 @@ vacant : (h : Heap) (size p : ℕ) → Takes size p → (r : ℕ) → r < h .pag
 vacant h size p K r l ok =
     let x = run-of (h .pages) (h .table) (pagesFor size) r ok in
     let R = run-free (h .pages) (h .table) r in
-    let c : kindOf size p % 256 / 2 ≡ classOf size = omega (arith, K .kind, K .class) in
+    let c : kindOf size p % unsweptFlag / 2 ≡ classOf size = omega (arith, K .kind, K .class) in
     record {
       inside = omega (arith, R .0);
       free = λ g a b. let z : r + (g - r) ≡ g = omega arith in rw z at (R .1 (g - r) (omega arith));
@@ -212,10 +212,10 @@ choice {h} F size p K ok = go (ltb r (h .pages)) refl ok
     q : ℕ
     q = firstBelow (h .pages) (isShortest (h .pages) (h .table) (pagesFor size))
 
-    c : kindOf size p % 256 / 2 ≡ classOf size
+    c : kindOf size p % unsweptFlag / 2 ≡ classOf size
     c = omega (arith, K .kind, K .class)
 
-    even : kindOf size p % 256 % 2 ≡ kindOf size p % 2
+    even : kindOf size p % unsweptFlag % 2 ≡ kindOf size p % 2
     even = omega (arith, K .kind)
 
     go : (b : Bool) → ltb r (h .pages) ≡ b → T (b || ltb q (h .pages)) →

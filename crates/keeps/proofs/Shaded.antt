@@ -9,7 +9,7 @@ use native.Mathlib.Omega.{arith}
 use lib.ListN.{getD, set, length-set}
 use lib.Dec.{T, eqb, eqb→eq}
 use borrow.Author.Tests.{eq-eqb, eqb-true, eqb-false}
-use Rattle.model.specs.Memory.{Heap, withArena, withBits, setRoot, slot, global, root, word, wordOf, phase, stateAt, globalAt}
+use Rattle.model.specs.Memory.{Heap, withArena, withBits, setRoot, slot, global, root, word, wordOf, phase, stateAt, globalAt, stackCount, slotCount, globalCount, firstGlobal, firstState, globalsStateAt, pageWords}
 use Rattle.model.specs.Bitmaps.{Part, allocated, marked, gray, pointer, is, putBit}
 use Rattle.model.specs.Spans.{elementOf, spanOf, kept, pointerCount, elementWords}
 use Rattle.model.specs.Shading.{shade, shadeAll, barrier}
@@ -125,7 +125,7 @@ module _ {h : Heap} (F : Audited h) (one : phase h ≡ 1) (v : ℕ) (r : Refers 
               (hit w e (eqb→eq w (wordOf v) (y .0)), and-iff (not (is marked h w)) (scanAt t w) .0 (y .1) .1)
 
 -- a word of the arena is set: the value is a reference, if a pointer stands there
-pub arena-kept : {h : Heap} → Audited h → (w v : ℕ) → w < 1024 * h .pages → (T (is pointer h w) → Refers h v) → Audited (withArena (set (h .arena) w v) h)
+pub arena-kept : {h : Heap} → Audited h → (w v : ℕ) → w < pageWords * h .pages → (T (is pointer h w) → Refers h v) → Audited (withArena (set (h .arena) w v) h)
 arena-kept {h} F w v l r = record {
   sized = record {
     low = F .sized .low;
@@ -166,12 +166,12 @@ barrier-kept {h} F old new ro rn = rw (barrier-is h old new) (go (eqb (phase h) 
     go false e = (F, λ x y. y)
 
 -- a store to a record, and to a global
-pub store-kept : {h : Heap} → Audited h → (w v : ℕ) → w < 1024 * h .pages → Refers h v → Refers h (word h w) →
+pub store-kept : {h : Heap} → Audited h → (w v : ℕ) → w < pageWords * h .pages → Refers h v → Refers h (word h w) →
     Audited (withArena (set (h .arena) w v) (withBits (barrier h (word h w) v) h))
 store-kept {h} F w v l rv ro = let x = barrier-kept F (word h w) v ro rv in arena-kept (x .0) w v l (λ _. x .1 v rv)
 
-pub store-global-kept : {h : Heap} → Audited h → (g v : ℕ) → g < 32 → Refers h v → Audited (setRoot (globalAt g) v (withBits (barrier h (global h g) v) h))
-store-global-kept {h} F g v hg rv = let x = barrier-kept F (global h g) v (F .references .root (512 + g) (omega arith)) rv in global-kept (x .0) g v hg (x .1 v rv)
+pub store-global-kept : {h : Heap} → Audited h → (g v : ℕ) → g < globalCount → Refers h v → Audited (setRoot (globalAt g) v (withBits (barrier h (global h g) v) h))
+store-global-kept {h} F g v hg rv = let x = barrier-kept F (global h g) v (F .references .root (firstGlobal + g) (omega arith)) rv in global-kept (x .0) g v hg (x .1 v rv)
 
 -- many values shaded, all of them references
 pub all-kept : {h : Heap} → Audited h → phase h ≡ 1 → (value : ℕ → ℕ) (n : ℕ) → ((k : ℕ) → k < n → Refers h (value k)) →
@@ -185,16 +185,16 @@ all-kept {h} F one value (suc n) r =
     (shade-kept (f .0) one (value n) q, λ x y. shade-refers (f .0) one (value n) q x (f .1 x y))
 
 -- a stack is scanned, and the globals
-pub scan-stack-kept : {h : Heap} → Audited h → phase h ≡ 1 → (s : ℕ) → s < 16 → getD (h .roots) (544 + s) 0 ≢ 0 → Audited (scan 32 (slot h s) (stateAt s) h)
-scan-stack-kept {h} F one s hs o = scanned-kept (all-kept F one (slot h s) 32 (λ i l. F .references .root (32 * s + i) (omega arith)) .0) s hs o
+pub scan-stack-kept : {h : Heap} → Audited h → phase h ≡ 1 → (s : ℕ) → s < stackCount → getD (h .roots) (firstState + s) 0 ≢ 0 → Audited (scan slotCount (slot h s) (stateAt s) h)
+scan-stack-kept {h} F one s hs o = scanned-kept (all-kept F one (slot h s) slotCount (λ i l. F .references .root (slotCount * s + i) (omega arith)) .0) s hs o
 
-pub scan-globals-kept : {h : Heap} → Audited h → phase h ≡ 1 → Audited (scan 32 (global h) 560 h)
-scan-globals-kept {h} F one = globals-kept (all-kept F one (global h) 32 (λ i l. F .references .root (512 + i) (omega arith)) .0)
+pub scan-globals-kept : {h : Heap} → Audited h → phase h ≡ 1 → Audited (scan globalCount (global h) globalsStateAt h)
+scan-globals-kept {h} F one = globals-kept (all-kept F one (global h) globalCount (λ i l. F .references .root (firstGlobal + i) (omega arith)) .0)
 
 -- a gray bit is cleared
 pub ungray-kept : {h : Heap} → Audited h →
-    (w : ℕ) → w < 1024 * h .pages → Audited (withBits (putBit (1024 * h .pages) gray w false (h .bits)) h) ×
-    ((x : ℕ) → Refers h x → Refers (withBits (putBit (1024 * h .pages) gray w false (h .bits)) h) x)
+    (w : ℕ) → w < pageWords * h .pages → Audited (withBits (putBit (pageWords * h .pages) gray w false (h .bits)) h) ×
+    ((x : ℕ) → Refers h x → Refers (withBits (putBit (pageWords * h .pages) gray w false (h .bits)) h) x)
 ungray-kept {h} F w l = (
   record {
     sized = record {
@@ -202,7 +202,7 @@ ungray-kept {h} F w l = (
       high = F .sized .high;
       arena = F .sized .arena;
       table = F .sized .table;
-      bits = part-length (1024 * h .pages) gray w false (h .bits) ∙ F .sized .bits;
+      bits = part-length (pageWords * h .pages) gray w false (h .bits) ∙ F .sized .bits;
       roots = F .sized .roots;
     };
     spans = F .spans;
@@ -231,13 +231,13 @@ ungray-kept {h} F w l = (
 )
   where
     b : List ℕ
-    b = putBit (1024 * h .pages) gray w false (h .bits)
+    b = putBit (pageWords * h .pages) gray w false (h .bits)
 
     same : (q : Part) → samePart q gray ≡ false → (v : ℕ) → bit (h .pages) q b v ≡ is q h v
-    same q e v = rw (part-at (1024 * h .pages) q gray w false (h .bits) l (four h (F .sized)) v, e)
+    same q e v = rw (part-at (pageWords * h .pages) q gray w false (h .bits) l (four h (F .sized)) v, e)
 
     less : (v : ℕ) → T (bit (h .pages) gray b v) → T (is gray h v)
-    less v x = go (eqb v w) (rw (part-at (1024 * h .pages) gray gray w false (h .bits) l (four h (F .sized)) v) at x)
+    less v x = go (eqb v w) (rw (part-at (pageWords * h .pages) gray gray w false (h .bits) l (four h (F .sized)) v) at x)
       where
         go : (c : Bool) → T (cond c false (is gray h v)) → T (is gray h v)
         go true x = absurd x
@@ -250,7 +250,7 @@ ungray-kept {h} F w l = (
     kept-is : (v : ℕ) → keptAt (h .pages) (h .table) b v ≡ kept h v
     kept-is v = rw (same allocated refl v, same marked refl v)
 
-    ref : (x : ℕ) → Refers h x → Refers (withBits (putBit (1024 * h .pages) gray w false (h .bits)) h) x
+    ref : (x : ℕ) → Refers h x → Refers (withBits (putBit (pageWords * h .pages) gray w false (h .bits)) h) x
     ref x (inl e) = inl e
     ref x (inr f) = inr (f .0, rw (kept-is (wordOf x)) (f .1))
 
@@ -260,7 +260,7 @@ unfolding scanRecord
 mark-kept {h} F one w g =
     let a = F .bits .marks w (F .bits .grays w g .0) in
     let kp : T (kept h w) = rw (not-unswept (F .spans) (F .phases) (λ e. absurd (omega arith)) (spanOf (h .table) w)) a in
-    let u = ungray-kept F w (bit-inside (1024 * h .pages) gray (h .bits) w g) in
+    let u = ungray-kept F w (bit-inside (pageWords * h .pages) gray (h .bits) w g) in
     all-kept (u .0) one (λ f. word h (w + f)) (pointerCount h w) (λ f l. u .1 (word h (w + f)) (pointer-word F w a kp f l .1)) .0
 
 -- a number word is set

@@ -8,9 +8,9 @@ use native.Mathlib.Omega.{arith}
 use lib.ListN.{getD}
 use lib.Dec.{T, eqb}
 use borrow.Author.Tests.{lt-leb, le-leb, eq-eqb, eqb-true, eqb-false, not-false}
-use Rattle.model.specs.Memory.{Heap, wordOf, phase}
+use Rattle.model.specs.Memory.{Heap, wordOf, phase, pageWords}
 use Rattle.model.specs.Bitmaps.{Part, allocated, marked, gray, pointer, is}
-use Rattle.model.specs.Spans.{owner, pageCount, kindEntry, isFree, elementWords, elements, elementStart, elementNumber, spanOf, elementOf, kept}
+use Rattle.model.specs.Spans.{owner, pageCount, kindEntry, isFree, elementWords, elements, elementStart, elementNumber, spanOf, elementOf, kept, unsweptFlag}
 use Rattle.model.specs.Cycle.{sweptBits, sweptTable, nothingLeft}
 use Rattle.model.proofs.Tests.{of-true, is-true, clash, and-iff, same-test}
 use Rattle.model.proofs.Bounded.{within, within-yes, within-true, all-at, some-fails}
@@ -21,7 +21,7 @@ use Rattle.model.proofs.Facts.{Audited, Bits, Phases, References, Reference, Oc
 use Rattle.keeps.proofs.SweptTable.{within-no, scaled, swept, inside, low, own, outside, gone, stays, same-out, same-left, page-out, swept-spans, table-length}
 use Rattle.keeps.proofs.Tables.{Like, like, like-scan, like-element, like-in, like-first}
 
-module _ {h : Heap} (F : Audited h) (s : ℕ) (span : IsSpan (h .table) s) (unswept : 256 ≤ kindEntry (h .table) s) where
+module _ {h : Heap} (F : Audited h) (s : ℕ) (span : IsSpan (h .table) s) (unswept : unsweptFlag ≤ kindEntry (h .table) s) where
   abbrev P : ℕ
   P = h .pages
 
@@ -39,7 +39,7 @@ module _ {h : Heap} (F : Audited h) (s : ℕ) (span : IsSpan (h .table) s) (unsw
 
   -- the words that are swept
   abbrev q : ℕ → Bool
-  q = within (1024 * s) (1024 * pageCount (h .table) s)
+  q = within (pageWords * s) (pageWords * pageCount (h .table) s)
 
   abbrev m : ℕ → Bool
   m = is marked h
@@ -47,19 +47,19 @@ module _ {h : Heap} (F : Audited h) (s : ℕ) (span : IsSpan (h .table) s) (unsw
   abbrev a : ℕ → Bool
   a = is allocated h
 
-  at : (r : Part) (v : ℕ) → let d = within (1024 * s) (1024 * pageCount (h .table) s) v in bit (h .pages) r (sweptBits h s) v ≡
+  at : (r : Part) (v : ℕ) → let d = within (pageWords * s) (pageWords * pageCount (h .table) s) v in bit (h .pages) r (sweptBits h s) v ≡
       cond (samePart r marked && d) false (cond (samePart r allocated && d) (is marked h v)
       (cond (samePart r pointer && d) (is pointer h v && is marked h (startIn (h .table) s v)) (is r h v)))
   at = swept-at h (F .sized) s (inside F s span)
 
   -- what is left: a marked element
-  left : (w : ℕ) → within (1024 * s) (1024 * pageCount (h .table) s) w ≡ true → T (m w) → nothingLeft h s ≡ false
+  left : (w : ℕ) → within (pageWords * s) (pageWords * pageCount (h .table) s) w ≡ true → T (m w) → nothingLeft h s ≡ false
   unfolding nothingLeft
   left w e x = go (nothingLeft h s) refl
     where
       go : (b : Bool) → nothingLeft h s ≡ b → b ≡ false
       go true p =
-          let f = within-true (1024 * s) (1024 * n) w e in
+          let f = within-true (pageWords * s) (pageWords * n) w e in
           let E = F .bits .element w (F .bits .marks w x) in
           let z = at-home (F .spans) s w span (omega arith) (omega arith) .1 in
           let i : elementStart t s (elementNumber t s w) ≡ w = rw z at (E .first) in
@@ -70,59 +70,59 @@ module _ {h : Heap} (F : Audited h) (s : ℕ) (span : IsSpan (h .table) s) (unsw
           not-true′ = borrow.Author.Tests.not-true (m w)
       go false p = refl
 
-  pub stay-like : (w : ℕ) → T (cond (within (1024 * s) (1024 * pageCount (h .table) s) w) (is marked h w) (is allocated h w)) → Like (h .table) (sweptTable h s) w
+  pub stay-like : (w : ℕ) → T (cond (within (pageWords * s) (pageWords * pageCount (h .table) s) w) (is marked h w) (is allocated h w)) → Like (h .table) (sweptTable h s) w
   stay-like w x = go (q w) refl x
     where
       go : (b : Bool) → q w ≡ b → T (cond b (m w) (a w)) → Like t u w
-      go true e x = let z = left w e x in like t u w (same-left F s span z (w / 1024)) (same-left F s span z (spanOf t w))
+      go true e x = let z = left w e x in like t u w (same-left F s span z (w / pageWords)) (same-left F s span z (spanOf t w))
       go false e x = let z = sym (scaled s n w) ∙ e in
-          like t u w (same-out F s span (w / 1024) z) (same-out F s span (spanOf t w) (page-out F s span (w / 1024) (F .bits .element w x .lies .used) z))
+          like t u w (same-out F s span (w / pageWords) z) (same-out F s span (spanOf t w) (page-out F s span (w / pageWords) (F .bits .element w x .lies .used) z))
 
   -- the pointer bits of an element that is left
-  pub stay-bits : (w : ℕ) → T (cond (within (1024 * s) (1024 * pageCount (h .table) s) w) (is marked h w) (is allocated h w)) →
+  pub stay-bits : (w : ℕ) → T (cond (within (pageWords * s) (pageWords * pageCount (h .table) s) w) (is marked h w) (is allocated h w)) →
       (f : ℕ) → f < elementWords (h .table) (spanOf (h .table) w) →
       bit (h .pages) pointer (sweptBits h s) (w + f) ≡ is pointer h (w + f)
   stay-bits w x f l = rw (at pointer (w + f)) (go (q w) refl x)
     where
       go : (b : Bool) → q w ≡ b → T (cond b (m w) (a w)) → cond (q (w + f)) (is pointer h (w + f) && m (startIn t s (w + f))) (is pointer h (w + f)) ≡ is pointer h (w + f)
       go true e x =
-          let y = within-true (1024 * s) (1024 * n) w e in
+          let y = within-true (pageWords * s) (pageWords * n) w e in
           let E = F .bits .element w (F .bits .marks w x) in
           let z = at-home (F .spans) s w span (omega arith) (omega arith) .1 in
           let fit = rw z at (whole (F .spans) w E .0) in
           let l′ = rw z at l in
           rw (
-            within-yes (1024 * s) (1024 * n) (w + f) (omega arith) (omega arith),
+            within-yes (pageWords * s) (pageWords * n) (w + f) (omega arith) (omega arith),
             start-same t s w (w + f) (rw z at (E .first)) (omega arith) (omega arith),
             of-true (m w) x,
           ) (and-true _)
       go false e x =
           let E = F .bits .element w x in
-          let z = page-out F s span (w / 1024) (E .lies .used) (sym (scaled s n w) ∙ e) in
-          rw (within-no (1024 * s) (1024 * n) (w + f)
+          let z = page-out F s span (w / pageWords) (E .lies .used) (sym (scaled s n w) ∙ e) in
+          rw (within-no (pageWords * s) (pageWords * n) (w + f)
           (far E (spans-apart (F .spans) (spanOf t w) s (span-of (F .spans) w (E .lies .used)) span (λ p. true≢false (sym (rw p (own F s span)) ∙ z)))))
         where
-          far : Element t w → ((spanOf t w + pageCount t (spanOf t w) ≤ s) ⊎ (s + pageCount t s ≤ spanOf t w)) → (w + f < 1024 * s) ⊎ (1024 * s + 1024 * n ≤ w + f)
+          far : Element t w → ((spanOf t w + pageCount t (spanOf t w) ≤ s) ⊎ (s + pageCount t s ≤ spanOf t w)) → (w + f < pageWords * s) ⊎ (pageWords * s + pageWords * n ≤ w + f)
           far E (inl y) = inl (omega (arith, whole (F .spans) w E))
           far E (inr y) = inr (omega (arith, in-span (F .spans) w (E .lies .used)))
 
   -- a word of the span at r is swept if that is the span
-  q-is : (r x : ℕ) → IsSpan t r → 1024 * r ≤ x → x < 1024 * (r + pageCount t r) → q x ≡ eqb r s
+  q-is : (r x : ℕ) → IsSpan t r → pageWords * r ≤ x → x < pageWords * (r + pageCount t r) → q x ≡ eqb r s
   q-is r x e v w = go (eqb r s) refl
     where
-      far : ((r + pageCount t r ≤ s) ⊎ (s + pageCount t s ≤ r)) → (x < 1024 * s) ⊎ (1024 * s + 1024 * n ≤ x)
+      far : ((r + pageCount t r ≤ s) ⊎ (s + pageCount t s ≤ r)) → (x < pageWords * s) ⊎ (pageWords * s + pageWords * n ≤ x)
       far (inl y) = inl (omega arith)
       far (inr y) = inr (omega arith)
 
       go : (c : Bool) → eqb r s ≡ c → q x ≡ c
-      go true p = let z = eqb-true r s p in within-yes (1024 * s) (1024 * n) x (omega arith) (omega (arith, rw z at w))
-      go false p = within-no (1024 * s) (1024 * n) x (far (spans-apart (F .spans) r s e span (eqb-false r s p)))
+      go true p = let z = eqb-true r s p in within-yes (pageWords * s) (pageWords * n) x (omega arith) (omega (arith, rw z at w))
+      go false p = within-no (pageWords * s) (pageWords * n) x (far (spans-apart (F .spans) r s e span (eqb-false r s p)))
 
-  q-home : (x : ℕ) → 0 < owner t (x / 1024) → q x ≡ eqb (spanOf t x) s
+  q-home : (x : ℕ) → 0 < owner t (x / pageWords) → q x ≡ eqb (spanOf t x) s
   q-home x v = let i = in-span (F .spans) x v in q-is (spanOf t x) x (span-of (F .spans) x v) (i .0) (i .1)
 
   -- words between an element's first and v are swept if v is
-  q-between : (v x : ℕ) → 0 < owner t (v / 1024) → elementOf t v ≤ x → x ≤ v → q x ≡ q v
+  q-between : (v x : ℕ) → 0 < owner t (v / pageWords) → elementOf t v ≤ x → x ≤ v → q x ≡ q v
   q-between v x y c d = let i = in-span (F .spans) v y in
       q-is (spanOf t v) x (span-of (F .spans) v y) (omega (arith, round (F .spans) v y)) (omega arith) ∙ sym (q-home v y)
 
@@ -146,12 +146,12 @@ module _ {h : Heap} (F : Audited h) (s : ℕ) (span : IsSpan (h .table) s) (unsw
           let o : T (m (elementOf t v)) = rw z (xy .1) in
           let y = q-between v (elementOf t v) (f .0 .used) (omega arith) (round (F .spans) v (f .0 .used) .1) ∙ e in
           let l = left (elementOf t v) y o in
-          (xy .0, rw y o, like t u v (same-left F s span l (v / 1024)) (same-left F s span l (spanOf t v)))
+          (xy .0, rw y o, like t u v (same-left F s span l (v / pageWords)) (same-left F s span l (spanOf t v)))
       go false e x =
           let f = F .bits .pointers v x in
           let y = q-between v (elementOf t v) (f .0 .used) (omega arith) (round (F .spans) v (f .0 .used) .1) ∙ e in
           let z = sym (scaled s n v) ∙ e in
-          (x, rw y (f .2), like t u v (same-out F s span (v / 1024) z) (same-out F s span (spanOf t v) (page-out F s span (v / 1024) (f .0 .used) z)))
+          (x, rw y (f .2), like t u v (same-out F s span (v / pageWords) z) (same-out F s span (spanOf t v) (page-out F s span (v / pageWords) (f .0 .used) z)))
 
   swept-bits : phase h ≡ 2 → Bits P u b′
   swept-bits two = record {
@@ -174,7 +174,7 @@ module _ {h : Heap} (F : Audited h) (s : ℕ) (span : IsSpan (h .table) s) (unsw
           T (cond (q (v - 1)) (is pointer h (v - 1) && m (startIn t s (v - 1))) (is pointer h (v - 1)))
       runs v p o l = go (q v) refl (rw (q-between v (elementOf t v) y (omega arith) (round (F .spans) v y .1)) at o)
         where
-          y : 0 < owner t (v / 1024)
+          y : 0 < owner t (v / pageWords)
           y = F .bits .pointers v p .0 .used
 
           go : (b : Bool) → q v ≡ b → T (cond b (m (elementOf t v)) (a (elementOf t v))) →
@@ -199,40 +199,40 @@ module _ {h : Heap} (F : Audited h) (s : ℕ) (span : IsSpan (h .table) s) (unsw
       none v x = true≢false (sym (of-true _ x) ∙ F .phases .plain (λ y. absurd (omega arith)) v)
 
   -- a word is unswept afterwards if it was and its span is another
-  pub flag-is : (w : ℕ) → 0 < owner (h .table) (w / 1024) → 0 < owner (sweptTable h s) (w / 1024) →
-      unsweptAt (sweptTable h s) w ≡ cond (within (1024 * s) (1024 * pageCount (h .table) s) w) false (unsweptAt (h .table) w)
-  flag-is w x y = rw (scaled s n w) (go (within s n (w / 1024)) refl (nothingLeft h s) refl)
+  pub flag-is : (w : ℕ) → 0 < owner (h .table) (w / pageWords) → 0 < owner (sweptTable h s) (w / pageWords) →
+      unsweptAt (sweptTable h s) w ≡ cond (within (pageWords * s) (pageWords * pageCount (h .table) s) w) false (unsweptAt (h .table) w)
+  flag-is w x y = rw (scaled s n w) (go (within s n (w / pageWords)) refl (nothingLeft h s) refl)
     where
-      go : (b : Bool) → within s n (w / 1024) ≡ b → (c : Bool) → nothingLeft h s ≡ c → unsweptAt u w ≡ cond b false (unsweptAt t w)
-      go true e true f = absurd (omega (arith, gone F s span f (w / 1024) e))
+      go : (b : Bool) → within s n (w / pageWords) ≡ b → (c : Bool) → nothingLeft h s ≡ c → unsweptAt u w ≡ cond b false (unsweptAt t w)
+      go true e true f = absurd (omega (arith, gone F s span f (w / pageWords) e))
       go true e false f =
-          let r = within-true s n (w / 1024) e in
-          let z : owner t (w / 1024) - 1 ≡ s = omega (arith, F .spans .body s (w / 1024) span (r .0) (r .1)) in
-          rw (stays F s span f (w / 1024) .0, z, stays F s span f s .2, eq-eqb s s refl) (lt-leb 256 (kindEntry t s % 256) (omega arith))
-      go false e c f = rw (outside F s span (w / 1024) e .0, outside F s span (spanOf t w) (page-out F s span (w / 1024) x e) .2)
+          let r = within-true s n (w / pageWords) e in
+          let z : owner t (w / pageWords) - 1 ≡ s = omega (arith, F .spans .body s (w / pageWords) span (r .0) (r .1)) in
+          rw (stays F s span f (w / pageWords) .0, z, stays F s span f s .2, eq-eqb s s refl) (lt-leb unsweptFlag (kindEntry t s % unsweptFlag) (omega arith))
+      go false e c f = rw (outside F s span (w / pageWords) e .0, outside F s span (spanOf t w) (page-out F s span (w / pageWords) x e) .2)
 
   -- the same of every word, also on free pages
-  pub late-swept : (w : ℕ) → (not (isFree (sweptTable h s) (w / 1024)) && unsweptAt (sweptTable h s) w) ≡
-      cond (within (1024 * s) (1024 * pageCount (h .table) s) w) false (not (isFree (h .table) (w / 1024)) && unsweptAt (h .table) w)
-  late-swept w = rw (scaled s n w) (go (within s n (w / 1024)) refl (nothingLeft h s) refl (eqb (owner t (w / 1024)) 0) refl)
+  pub late-swept : (w : ℕ) → (not (isFree (sweptTable h s) (w / pageWords)) && unsweptAt (sweptTable h s) w) ≡
+      cond (within (pageWords * s) (pageWords * pageCount (h .table) s) w) false (not (isFree (h .table) (w / pageWords)) && unsweptAt (h .table) w)
+  late-swept w = rw (scaled s n w) (go (within s n (w / pageWords)) refl (nothingLeft h s) refl (eqb (owner t (w / pageWords)) 0) refl)
     where
-      go : (b : Bool) → within s n (w / 1024) ≡ b → (c : Bool) → nothingLeft h s ≡ c → (d : Bool) → eqb (owner t (w / 1024)) 0 ≡ d →
-          (not (isFree u (w / 1024)) && unsweptAt u w) ≡ cond b false (not d && unsweptAt t w)
-      go true e true f d g = rw (gone F s span f (w / 1024) e .0)
+      go : (b : Bool) → within s n (w / pageWords) ≡ b → (c : Bool) → nothingLeft h s ≡ c → (d : Bool) → eqb (owner t (w / pageWords)) 0 ≡ d →
+          (not (isFree u (w / pageWords)) && unsweptAt u w) ≡ cond b false (not d && unsweptAt t w)
+      go true e true f d g = rw (gone F s span f (w / pageWords) e .0)
       go true e false f d g =
-          let r = within-true s n (w / 1024) e in
-          let o = F .spans .body s (w / 1024) span (r .0) (r .1) in
-          rw (flag-is w (omega arith) (rw (stays F s span f (w / 1024) .0) (omega arith)), scaled s n w, e) (and-false (not (isFree u (w / 1024))))
-      go false e c f true g = rw (outside F s span (w / 1024) e .0, g)
+          let r = within-true s n (w / pageWords) e in
+          let o = F .spans .body s (w / pageWords) span (r .0) (r .1) in
+          rw (flag-is w (omega arith) (rw (stays F s span f (w / pageWords) .0) (omega arith)), scaled s n w, e) (and-false (not (isFree u (w / pageWords))))
+      go false e c f true g = rw (outside F s span (w / pageWords) e .0, g)
       go false e c f false g =
-          let x : 0 < owner t (w / 1024) = omega (arith, eqb-false (owner t (w / 1024)) 0 g) in
-          rw (flag-is w x (rw (outside F s span (w / 1024) e .0) x), scaled s n w, e, outside F s span (w / 1024) e .0, g)
+          let x : 0 < owner t (w / pageWords) = omega (arith, eqb-false (owner t (w / pageWords)) 0 g) in
+          rw (flag-is w x (rw (outside F s span (w / pageWords) e .0) x), scaled s n w, e, outside F s span (w / pageWords) e .0, g)
 
-  pub was-late : (w : ℕ) → within (1024 * s) (1024 * pageCount (h .table) s) w ≡ true → unsweptAt (h .table) w ≡ true
+  pub was-late : (w : ℕ) → within (pageWords * s) (pageWords * pageCount (h .table) s) w ≡ true → unsweptAt (h .table) w ≡ true
   was-late w x =
-      let y = within-true (1024 * s) (1024 * n) w x in
+      let y = within-true (pageWords * s) (pageWords * n) w x in
       let z = at-home (F .spans) s w span (omega arith) (omega arith) in
-      rw (z .1, le-leb 256 (kindEntry t s) unswept)
+      rw (z .1, le-leb unsweptFlag (kindEntry t s) unswept)
 
   -- the kept elements are the same
   kept-is : (v : ℕ) → keptAt P u b′ v ≡ kept h v

@@ -9,8 +9,8 @@ use native.Mathlib.Omega.{arith}
 use lib.ListN.{length}
 use lib.Dec.{eqb}
 use borrow.Author.Tests.{eq-eqb, ne-eqb, eqb-true, eqb-false}
-use Rattle.model.specs.Memory.{Heap, lent}
-use Rattle.model.specs.Spans.{owner, pageCount, kindEntry, putPage, putPages, spanPage, freePage}
+use Rattle.model.specs.Memory.{Heap, lent, pageWords, entryNumbers}
+use Rattle.model.specs.Spans.{owner, pageCount, kindEntry, putPage, putPages, spanPage, freePage, unsweptFlag}
 use Rattle.model.specs.Cycle.{sweptBits, sweptTable, nothingLeft}
 use Rattle.model.proofs.Bounded.{within, within-yes, within-low, within-high, within-true, within-false}
 use Rattle.model.proofs.Table.{page-length, owner-put, count-put, kind-put, pages-length, pages-owner, pages-count, pages-kind}
@@ -25,16 +25,16 @@ within-no b n x (inl h) = within-low b n x h
 within-no b n x (inr h) = within-high b n x h
 
 -- the words of the pages s to s + n - 1
-pub scaled : (s n w : ℕ) → within (1024 * s) (1024 * n) w ≡ within s n (w / 1024)
-scaled s n w = go (within s n (w / 1024)) refl
+pub scaled : (s n w : ℕ) → within (pageWords * s) (pageWords * n) w ≡ within s n (w / pageWords)
+scaled s n w = go (within s n (w / pageWords)) refl
   where
-    outer : ((w / 1024 < s) ⊎ (s + n ≤ w / 1024)) → within (1024 * s) (1024 * n) w ≡ false
-    outer (inl h) = within-low (1024 * s) (1024 * n) w (omega arith)
-    outer (inr h) = within-high (1024 * s) (1024 * n) w (omega arith)
+    outer : ((w / pageWords < s) ⊎ (s + n ≤ w / pageWords)) → within (pageWords * s) (pageWords * n) w ≡ false
+    outer (inl h) = within-low (pageWords * s) (pageWords * n) w (omega arith)
+    outer (inr h) = within-high (pageWords * s) (pageWords * n) w (omega arith)
 
-    go : (b : Bool) → within s n (w / 1024) ≡ b → within (1024 * s) (1024 * n) w ≡ b
-    go true e = let f = within-true s n (w / 1024) e in within-yes (1024 * s) (1024 * n) w (omega arith) (omega arith)
-    go false e = outer (within-false s n (w / 1024) e)
+    go : (b : Bool) → within s n (w / pageWords) ≡ b → within (pageWords * s) (pageWords * n) w ≡ b
+    go true e = let f = within-true s n (w / pageWords) e in within-yes (pageWords * s) (pageWords * n) w (omega arith) (omega arith)
+    go false e = outer (within-false s n (w / pageWords) e)
 
 -- the heap after the span at page s was swept
 abbrev pub swept : ℕ → Heap → Heap
@@ -67,7 +67,7 @@ module _ {h : Heap} (F : Audited h) (s : ℕ) (span : IsSpan (h .table) s) where
   outside x e = rw (swept-table h s) (go (nothingLeft h s))
     where
       y : Rattle.model.specs.Spans.Entry
-      y = spanPage s n (kindEntry t s % 256) s
+      y = spanPage s n (kindEntry t s % unsweptFlag) s
 
       d : eqb x s ≡ false
       d = ne-eqb x s (λ p. true≢false (rw (p, own) at e))
@@ -89,7 +89,7 @@ module _ {h : Heap} (F : Audited h) (s : ℕ) (span : IsSpan (h .table) s) where
   )
 
   pub stays : nothingLeft h s ≡ false → (x : ℕ) →
-      (owner u x ≡ owner t x) × (pageCount u x ≡ pageCount t x) × (kindEntry u x ≡ cond (eqb x s) (kindEntry t s % 256) (kindEntry t x))
+      (owner u x ≡ owner t x) × (pageCount u x ≡ pageCount t x) × (kindEntry u x ≡ cond (eqb x s) (kindEntry t s % unsweptFlag) (kindEntry t x))
   stays b x = rw (swept-table h s, b) (
     rw (owner-put P s y t low (F .sized .table) x) (at-s (owner t) (s + 1) span),
     rw (count-put P s y t low (F .sized .table) x, same) (at-s (pageCount t) (pageCount t s) refl),
@@ -97,7 +97,7 @@ module _ {h : Heap} (F : Audited h) (s : ℕ) (span : IsSpan (h .table) s) where
   )
     where
       y : Rattle.model.specs.Spans.Entry
-      y = spanPage s n (kindEntry t s % 256) s
+      y = spanPage s n (kindEntry t s % unsweptFlag) s
 
       same : eqb s s ≡ true
       same = eq-eqb s s refl
@@ -116,7 +116,7 @@ module _ {h : Heap} (F : Audited h) (s : ℕ) (span : IsSpan (h .table) s) where
   pub same-left : nothingLeft h s ≡ false → (x : ℕ) → Same t u x
   same-left b x = let f = stays b x in (f .0, f .1, rw (f .2) (go (eqb x s) refl))
     where
-      go : (c : Bool) → eqb x s ≡ c → cond c (kindEntry t s % 256) (kindEntry t x) % 256 ≡ kindEntry t x % 256
+      go : (c : Bool) → eqb x s ≡ c → cond c (kindEntry t s % unsweptFlag) (kindEntry t x) % unsweptFlag ≡ kindEntry t x % unsweptFlag
       go true e = rw (eqb-true x s e) (omega arith)
       go false e = refl
 
@@ -134,10 +134,10 @@ module _ {h : Heap} (F : Audited h) (s : ℕ) (span : IsSpan (h .table) s) where
       go false p = refl
 
   -- an unswept span of the result was one, and is another
-  pub unswept-less : (x : ℕ) → IsSpan (sweptTable h s) x → 256 ≤ kindEntry (sweptTable h s) x → IsSpan (h .table) x × (256 ≤ kindEntry (h .table) x) × (x ≢ s)
+  pub unswept-less : (x : ℕ) → IsSpan (sweptTable h s) x → unsweptFlag ≤ kindEntry (sweptTable h s) x → IsSpan (h .table) x × (unsweptFlag ≤ kindEntry (h .table) x) × (x ≢ s)
   unswept-less x i k = go (within s n x) refl (nothingLeft h s) refl (eqb x s) refl
     where
-      go : (b : Bool) → within s n x ≡ b → (c : Bool) → nothingLeft h s ≡ c → (d : Bool) → eqb x s ≡ d → IsSpan t x × (256 ≤ kindEntry t x) × (x ≢ s)
+      go : (b : Bool) → within s n x ≡ b → (c : Bool) → nothingLeft h s ≡ c → (d : Bool) → eqb x s ≡ d → IsSpan t x × (unsweptFlag ≤ kindEntry t x) × (x ≢ s)
       go true e true f d g = absurd (omega (arith, gone f x e))
       go true e false f true g = absurd (omega (arith, rw (stays f x .2, g) at k))
       go true e false f false g =
@@ -156,11 +156,11 @@ module _ {h : Heap} (F : Audited h) (s : ℕ) (span : IsSpan (h .table) s) where
     entry = λ r e. let e′ = rw (stays b r .0) at e in rw (stays b r .1, stays b r .2) (entry r (eqb r s) refl (F .spans .entry r e′));
   }
     where
-      entry : (r : ℕ) (c : Bool) → eqb r s ≡ c → GoodEntry (kindEntry t r) (pageCount t r) → GoodEntry (cond c (kindEntry t s % 256) (kindEntry t r)) (pageCount t r)
+      entry : (r : ℕ) (c : Bool) → eqb r s ≡ c → GoodEntry (kindEntry t r) (pageCount t r) → GoodEntry (cond c (kindEntry t s % unsweptFlag) (kindEntry t r)) (pageCount t r)
       entry r true e G =
           let z = eqb-true r s e in
           let G′ : GoodEntry (kindEntry t s) (pageCount t s) = rw z at G in
-          let y : kindEntry t s % 256 % 256 ≡ kindEntry t s % 256 = omega arith in
+          let y : kindEntry t s % unsweptFlag % unsweptFlag ≡ kindEntry t s % unsweptFlag = omega arith in
           rw z (record { flag = omega arith; kind = rw y (G′ .kind); large = λ w. G′ .large (rw y at w); small = λ w. rw y (G′ .small (rw y at w)) })
       entry r false e G = G
 
@@ -210,9 +210,9 @@ module _ {h : Heap} (F : Audited h) (s : ℕ) (span : IsSpan (h .table) s) where
       go true e = spans-gone e
       go false e = spans-left e
 
-  pub table-length : length u ≡ 3 * h .pages
+  pub table-length : length u ≡ entryNumbers * h .pages
   table-length = rw (swept-table h s) (go (nothingLeft h s))
     where
-      go : (b : Bool) → length (cond b (putPages s n (λ g. freePage) t) (putPage s (spanPage s n (kindEntry t s % 256) s) t)) ≡ 3 * h .pages
+      go : (b : Bool) → length (cond b (putPages s n (λ g. freePage) t) (putPage s (spanPage s n (kindEntry t s % unsweptFlag) s) t)) ≡ entryNumbers * h .pages
       go true = pages-length P s n (λ g. freePage) t inside (F .sized .table)
-      go false = page-length P s (spanPage s n (kindEntry t s % 256) s) t low (F .sized .table)
+      go false = page-length P s (spanPage s n (kindEntry t s % unsweptFlag) s) t low (F .sized .table)

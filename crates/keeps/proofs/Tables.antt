@@ -8,9 +8,10 @@ use mathlib.Core.Path.{_≡_, refl, ap, sym, _∙_}
 use native.Mathlib.Omega.{arith}
 use lib.Dec.{T, eqb, ltb}
 use borrow.Author.Tests.{eq-eqb, ne-eqb}
+use Rattle.model.specs.Memory.{pageWords}
 use Rattle.model.specs.Bitmaps.{allocated, gray}
 use Rattle.model.specs.Classes.{elementWordsOf}
-use Rattle.model.specs.Spans.{owner, pageCount, kindEntry, isScan, elementWords, elements, elementStart, elementNumber, spanOf, elementOf, putPages, spanPage}
+use Rattle.model.specs.Spans.{owner, pageCount, kindEntry, isScan, elementWords, elements, elementStart, elementNumber, spanOf, elementOf, putPages, spanPage, unsweptFlag}
 use Rattle.model.proofs.Tests.{is-true}
 use Rattle.model.proofs.Bounded.{within, within-yes, within-true}
 use Rattle.model.proofs.Table.{Tabled, pages-owner, pages-count, pages-kind}
@@ -19,19 +20,19 @@ use Rattle.model.proofs.Facts.{Bits, bit, scanAt, unsweptAt}
 
 -- two tables say the same of a page, but for the flag
 abbrev pub Same : List ℕ → List ℕ → ℕ → Type 0
-Same t u g = (owner u g ≡ owner t g) × (pageCount u g ≡ pageCount t g) × (kindEntry u g % 256 ≡ kindEntry t g % 256)
+Same t u g = (owner u g ≡ owner t g) × (pageCount u g ≡ pageCount t g) × (kindEntry u g % unsweptFlag ≡ kindEntry t g % unsweptFlag)
 
 -- .. and so of a word
 pub record Like (t u : List ℕ) (w : ℕ) : Type 0 where
-  pub page : owner u (w / 1024) ≡ owner t (w / 1024)
+  pub page : owner u (w / pageWords) ≡ owner t (w / pageWords)
   pub at : spanOf u w ≡ spanOf t w
-  pub class : kindEntry u (spanOf t w) % 256 ≡ kindEntry t (spanOf t w) % 256
+  pub class : kindEntry u (spanOf t w) % unsweptFlag ≡ kindEntry t (spanOf t w) % unsweptFlag
   pub long : pageCount u (spanOf t w) ≡ pageCount t (spanOf t w)
 
 pub same-words : (t u : List ℕ) (g : ℕ) → Same t u g → elementWords u g ≡ elementWords t g
 same-words t u g e = rw (e .2, e .1)
 
-pub like : (t u : List ℕ) (w : ℕ) → Same t u (w / 1024) → Same t u (spanOf t w) → Like t u w
+pub like : (t u : List ℕ) (w : ℕ) → Same t u (w / pageWords) → Same t u (spanOf t w) → Like t u w
 like t u w a b = record { page = a .0; at = rw (a .0); class = b .2; long = b .1 }
 
 module _ {t u : List ℕ} {w : ℕ} (L : Like t u w) where
@@ -55,7 +56,7 @@ module _ {t u : List ℕ} {w : ℕ} (L : Like t u w) where
   like-first E = record { lies = like-in (E .lies); first = like-element ∙ E .first }
 
 -- a table that says the same of every word with bits on keeps the facts of the bits
-pub bits-like : {P : ℕ} {t u b : List ℕ} → ((w : ℕ) → 0 < owner t (w / 1024) → Like t u w) → Bits P t b → Bits P u b
+pub bits-like : {P : ℕ} {t u b : List ℕ} → ((w : ℕ) → 0 < owner t (w / pageWords) → Like t u w) → Bits P t b → Bits P u b
 bits-like {P} {t} {u} {b} L C = record {
   element = λ w a. like-first (L w (C .element w a .lies .used)) (C .element w a);
   marks = C .marks;
@@ -65,13 +66,13 @@ bits-like {P} {t} {u} {b} L C = record {
   run = λ w p d. C .run w p (rw (like-element (L w (C .pointers w p .0 .used))) at d);
 }
   where
-    used : (w : ℕ) → T (bit P gray b w) → 0 < owner t (w / 1024)
+    used : (w : ℕ) → T (bit P gray b w) → 0 < owner t (w / pageWords)
     used w g = C .element w (C .marks w (C .grays w g .0)) .lies .used
 
 -- element k of the span at page r is free, and suits a record of p pointers
 pub record Chosen (P : ℕ) (t b : List ℕ) (r k p : ℕ) : Type 0 where
   pub span : IsSpan t r
-  pub swept : kindEntry t r < 256
+  pub swept : kindEntry t r < unsweptFlag
   pub scan : isScan t r ≡ ltb 0 p
   pub number : k < elements t r
   pub pointers : p ≤ elementWords t r
@@ -81,7 +82,7 @@ pub record Chosen (P : ℕ) (t b : List ℕ) (r k p : ℕ) : Type 0 where
 pub record Vacant (P : ℕ) (t : List ℕ) (s n kind : ℕ) : Type 0 where
   pub inside : s + n ≤ P
   pub free : (g : ℕ) → s ≤ g → g < s + n → owner t g ≡ 0
-  pub swept : kind < 256
+  pub swept : kind < unsweptFlag
   pub entry : GoodEntry kind n
 
 module _ {P : ℕ} {t : List ℕ} (k : Tabled P t) (F : Spans P t) {s n kind : ℕ} (Q : Vacant P t s n kind) where
@@ -171,8 +172,8 @@ module _ {P : ℕ} {t : List ℕ} (k : Tabled P t) (F : Spans P t) {s n kind : �
       entry r (inl e) = rw (e, new-entry .0, new-entry .1) (Q .entry)
       entry r (inr i) = rw (used-same r (omega arith) .1, used-same r (omega arith) .2) (F .entry r i)
 
-  pub carve-like : (w : ℕ) → 0 < owner t (w / 1024) → Like t (putPages s n (spanPage s n kind) t) w
-  carve-like w h = like t u w (same (w / 1024) h) (same (spanOf t w) (omega (arith, span-of F w h)))
+  pub carve-like : (w : ℕ) → 0 < owner t (w / pageWords) → Like t (putPages s n (spanPage s n kind) t) w
+  carve-like w h = like t u w (same (w / pageWords) h) (same (spanOf t w) (omega (arith, span-of F w h)))
     where
       same : (g : ℕ) → 0 < owner t g → Same t u g
       same g h = (used-same g h .0, used-same g h .1, rw (used-same g h .2))
@@ -181,11 +182,11 @@ module _ {P : ℕ} {t : List ℕ} (k : Tabled P t) (F : Spans P t) {s n kind : �
   carve-bits C = bits-like carve-like C
 
   -- a used word is unswept as before
-  pub carve-unswept : (w : ℕ) → 0 < owner t (w / 1024) → unsweptAt (putPages s n (spanPage s n kind) t) w ≡ unsweptAt t w
+  pub carve-unswept : (w : ℕ) → 0 < owner t (w / pageWords) → unsweptAt (putPages s n (spanPage s n kind) t) w ≡ unsweptAt t w
   carve-unswept w h = rw (carve-like w h .at, used-same (spanOf t w) (omega (arith, span-of F w h)) .2)
 
   -- its first element is free
-  pub carve-chosen : {b : List ℕ} → Bits P t b → (p : ℕ) → eqb (kind % 256 % 2) 0 ≡ ltb 0 p → p ≤ elementWordsOf (kind % 256 / 2) n →
+  pub carve-chosen : {b : List ℕ} → Bits P t b → (p : ℕ) → eqb (kind % unsweptFlag % 2) 0 ≡ ltb 0 p → p ≤ elementWordsOf (kind % unsweptFlag / 2) n →
       Chosen P (putPages s n (spanPage s n kind) t) b s 0 p
   carve-chosen {b} C p sc l = record {
     span = inner s (omega arith) (omega (arith, some));
@@ -197,5 +198,5 @@ module _ {P : ℕ} {t : List ℕ} (k : Tabled P t) (F : Spans P t) {s n kind : �
   }
     where
       go : (x : Bool) → bit P allocated b (elementStart u s 0) ≡ x → x ≡ false
-      go true a = absurd (omega (arith, C .element (elementStart u s 0) (is-true _ a) .lies .used, Q .free (elementStart u s 0 / 1024) (omega arith) (omega (arith, some))))
+      go true a = absurd (omega (arith, C .element (elementStart u s 0) (is-true _ a) .lies .used, Q .free (elementStart u s 0 / pageWords) (omega arith) (omega (arith, some))))
       go false a = refl

@@ -8,9 +8,9 @@ use native.Mathlib.Omega.{arith}
 use lib.ListN.{getD, set, length-set}
 use lib.Dec.{T, eqb, ltb, eqb→eq, ltb→lt}
 use borrow.Author.Tests.{lt-ltb, lt-leb, eq-eqb, ne-eqb, eqb-true, eqb-false}
-use Rattle.model.specs.Memory.{Heap, lent, putWords, slotAt, addressOf, wordOf, phase}
+use Rattle.model.specs.Memory.{Heap, lent, putWords, slotAt, addressOf, wordOf, phase, stackCount, slotCount, firstGlobal, firstState, globalsStateAt, phaseAt, pageWords}
 use Rattle.model.specs.Bitmaps.{Part, allocated, marked, gray, pointer, is}
-use Rattle.model.specs.Spans.{owner, pageCount, kindEntry, elementWords, elementStart, spanOf, elementOf, kept}
+use Rattle.model.specs.Spans.{owner, pageCount, kindEntry, elementWords, elementStart, spanOf, elementOf, kept, unsweptFlag}
 use Rattle.model.specs.Allocate.{newBits}
 use Rattle.model.proofs.Tests.{of-true, is-true, clash, and-iff}
 use Rattle.model.proofs.Bounded.{within, within-yes, within-true}
@@ -39,11 +39,11 @@ cond-hit false x t = absurd t
 
 -- element k of the span at page r
 module _ {P : ℕ} {t b : List ℕ} (F : Spans P t) (C : Bits P t b) {r k p : ℕ} (S : Chosen P t b r k p) where
-  pub ends : (0 < elementWords t r) × (elementStart t r k + elementWords t r ≤ 1024 * P)
+  pub ends : (0 < elementWords t r) × (elementStart t r k + elementWords t r ≤ pageWords * P)
   ends = (fits F r (S .span) .words, omega (arith, element-fits F r k (S .span) (S .number), F .inside r (S .span)))
 
   pub here : (v : ℕ) → elementStart t r k ≤ v → v < elementStart t r k + elementWords t r →
-      (owner t (v / 1024) ≡ r + 1) × (spanOf t v ≡ r) × (elementOf t v ≡ elementStart t r k)
+      (owner t (v / pageWords) ≡ r + 1) × (spanOf t v ≡ r) × (elementOf t v ≡ elementStart t r k)
   here v x y = let e = element-word F r k v (S .span) (S .number) x y in (e .0, e .1, e .3)
 
   -- no allocated element shares a word with the free one
@@ -76,7 +76,7 @@ module _ {P : ℕ} {t b : List ℕ} (F : Spans P t) (C : Bits P t b) {r k p : �
 -- the facts after it
 module _ {h : Heap} (Z : Sized h) (F : Spans (h .pages) (h .table)) (C : Bits (h .pages) (h .table) (h .bits)) {r k p : ℕ}
     (S : Chosen (h .pages) (h .table) (h .bits) r k p)
-    (s i : ℕ) (hs : s < 16) (hi : i < 32) where
+    (s i : ℕ) (hs : s < stackCount) (hi : i < slotCount) where
   abbrev P : ℕ
   P = h .pages
 
@@ -115,7 +115,7 @@ module _ {h : Heap} (Z : Sized h) (F : Spans (h .pages) (h .table)) (C : Bits (h
 
   pub taken-word : (x : ℕ) → getD (putWords (elementStart (h .table) r k) (elementWords (h .table) r) (λ v. 0) (h .arena)) x 0 ≡ cond
       (within (elementStart (h .table) r k) (elementWords (h .table) r) x) 0 (getD (h .arena) x 0)
-  taken-word = words-at (1024 * P) w n (λ v. 0) (h .arena) (ends F C S .1) (Z .arena)
+  taken-word = words-at (pageWords * P) w n (λ v. 0) (h .arena) (ends F C S .1) (Z .arena)
 
   on : T (bit P allocated b′ w)
   on = rw (taken-a w) (cond-hit (eqb w w) (is allocated h w) (is-true _ (eq-eqb w w refl)))
@@ -144,7 +144,7 @@ module _ {h : Heap} (Z : Sized h) (F : Spans (h .pages) (h .table)) (C : Bits (h
       go (inr x) = inr x
 
   -- the new element's words
-  mine : (v : ℕ) → w ≤ v → v < w + n → (owner t (v / 1024) ≡ r + 1) × (spanOf t v ≡ r) × (elementOf t v ≡ w)
+  mine : (v : ℕ) → w ≤ v → v < w + n → (owner t (v / pageWords) ≡ r + 1) × (spanOf t v ≡ r) × (elementOf t v ≡ w)
   mine = here F C S
 
   start-w : (w ≤ w) × (w < w + n)
@@ -224,18 +224,18 @@ module _ {h : Heap} (Z : Sized h) (F : Spans (h .pages) (h .table)) (C : Bits (h
 
   -- the new element is kept
   new-kept : T (keptAt P t b′ w)
-  new-kept = rw (mine w (start-w .0) (start-w .1) .1, lt-leb 256 (kindEntry t r) (S .swept)) on
+  new-kept = rw (mine w (start-w .0) (start-w .1) .1, lt-leb unsweptFlag (kindEntry t r) (S .swept)) on
 
-  roots-at : (x : ℕ) → getD (after .roots) x 0 ≡ cond (eqb x (32 * s + i)) (addressOf w) (getD (h .roots) x 0)
-  roots-at x = set-at (h .roots) (32 * s + i) (addressOf w) (omega (arith, Z .roots)) x
+  roots-at : (x : ℕ) → getD (after .roots) x 0 ≡ cond (eqb x (slotCount * s + i)) (addressOf w) (getD (h .roots) x 0)
+  roots-at x = set-at (h .roots) (slotCount * s + i) (addressOf w) (omega (arith, Z .roots)) x
 
   taken-references : References h → References after
   taken-references H = record {
-    root = λ x l. rw (roots-at x) (root x l (eqb x (32 * s + i)));
+    root = λ x l. rw (roots-at x) (root x l (eqb x (slotCount * s + i)));
     content = λ v q kp. ptr v (was-p v q) kp;
   }
     where
-      root : (x : ℕ) → x < 544 → (c : Bool) → Reference P t b′ (cond c (addressOf w) (getD (h .roots) x 0))
+      root : (x : ℕ) → x < firstState → (c : Bool) → Reference P t b′ (cond c (addressOf w) (getD (h .roots) x 0))
       root x l true = let e : wordOf (addressOf w) ≡ w = omega arith in inr (rw e, rw e new-kept)
       root x l false = refers-more (getD (h .roots) x 0) (H .root x l)
 
@@ -248,19 +248,19 @@ module _ {h : Heap} (Z : Sized h) (F : Spans (h .pages) (h .table)) (C : Bits (h
           go false = refers-more (getD (h .arena) v 0)
               (H .content v q (kept-was (elementOf t v) (λ x. true≢false (sym (of-true _ (rw x at (C .pointers v q .2))) ∙ S .free)) kp))
 
-  taken-states : getD (h .roots) (544 + s) 0 ≢ 0 → States (h .roots) → States (after .roots)
+  taken-states : getD (h .roots) (firstState + s) 0 ≢ 0 → States (h .roots) → States (after .roots)
   taken-states o G = record {
-    phase = rw (rest 561 (omega arith)) (G .phase);
-    legal = λ x l. rw (rest (544 + x) (omega arith), rest 561 (omega arith)) (G .legal x l);
-    globals = rw (rest 560 (omega arith), rest 561 (omega arith)) (G .globals);
-    closed = λ x j l m e. let e′ = rw (rest (544 + x) (omega arith)) at e in
-        rw (roots-at (32 * x + j), ne-eqb (32 * x + j) (32 * s + i) (λ y. other x j m e′ (omega arith))) (G .closed x j l m e′);
+    phase = rw (rest phaseAt (omega arith)) (G .phase);
+    legal = λ x l. rw (rest (firstState + x) (omega arith), rest phaseAt (omega arith)) (G .legal x l);
+    globals = rw (rest globalsStateAt (omega arith), rest phaseAt (omega arith)) (G .globals);
+    closed = λ x j l m e. let e′ = rw (rest (firstState + x) (omega arith)) at e in
+        rw (roots-at (slotCount * x + j), ne-eqb (slotCount * x + j) (slotCount * s + i) (λ y. other x j m e′ (omega arith))) (G .closed x j l m e′);
   }
     where
-      rest : (x : ℕ) → 512 ≤ x → getD (after .roots) x 0 ≡ getD (h .roots) x 0
-      rest x l = rw (roots-at x, ne-eqb x (32 * s + i) (omega arith))
+      rest : (x : ℕ) → firstGlobal ≤ x → getD (after .roots) x 0 ≡ getD (h .roots) x 0
+      rest x l = rw (roots-at x, ne-eqb x (slotCount * s + i) (omega arith))
 
-      other : (x j : ℕ) → j < 32 → getD (h .roots) (544 + x) 0 ≡ 0 → x ≢ s
+      other : (x j : ℕ) → j < slotCount → getD (h .roots) (firstState + x) 0 ≡ 0 → x ≢ s
       other x j l e q = o (rw q at e)
 
   taken-occupied : ((x : ℕ) → IsSpan t x → x ≢ r → (v : ℕ) × T (is allocated h v) × (spanOf t v ≡ x)) → Occupied P t b′
@@ -270,17 +270,17 @@ module _ {h : Heap} (Z : Sized h) (F : Spans (h .pages) (h .table)) (C : Bits (h
       go true q = (w, on, mine w (start-w .0) (start-w .1) .1 ∙ sym (eqb-true x r q))
       go false q = let f = G x e (eqb-false x r q) in (f .0, more-a (f .0) (f .1), f .2)
 
-  pub taken-kept : Phases (h .pages) (phase h) (h .table) (h .bits) → References h → States (h .roots) → getD (h .roots) (544 + s) 0 ≢ 0 →
+  pub taken-kept : Phases (h .pages) (phase h) (h .table) (h .bits) → References h → States (h .roots) → getD (h .roots) (firstState + s) 0 ≢ 0 →
       ((x : ℕ) → IsSpan (h .table) x → x ≢ r → (v : ℕ) × T (is allocated h v) × (spanOf (h .table) v ≡ x)) →
       Audited (taken s i (elementStart (h .table) r k) (elementWords (h .table) r) p h)
   taken-kept Q H G o N = record {
     sized = record {
       low = Z .low;
       high = Z .high;
-      arena = words-length (1024 * P) w n (λ v. 0) (h .arena) (ends F C S .1) (Z .arena);
+      arena = words-length (pageWords * P) w n (λ v. 0) (h .arena) (ends F C S .1) (Z .arena);
       table = Z .table;
       bits = new-length h w p Z (omega (arith, ends F C S)) (omega (arith, ends F C S, S .pointers)) ∙ Z .bits;
-      roots = length-set (h .roots) (32 * s + i) (addressOf w) ∙ Z .roots;
+      roots = length-set (h .roots) (slotCount * s + i) (addressOf w) ∙ Z .roots;
     };
     spans = F;
     bits = taken-bits;
@@ -290,5 +290,5 @@ module _ {h : Heap} (Z : Sized h) (F : Spans (h .pages) (h .table)) (C : Bits (h
     occupied = taken-occupied N;
   }
     where
-      same : getD (set (h .roots) (32 * s + i) (addressOf w)) 561 0 ≡ getD (h .roots) 561 0
-      same = rw (roots-at 561, ne-eqb 561 (32 * s + i) (omega arith))
+      same : getD (set (h .roots) (slotCount * s + i) (addressOf w)) phaseAt 0 ≡ getD (h .roots) phaseAt 0
+      same = rw (roots-at phaseAt, ne-eqb phaseAt (slotCount * s + i) (omega arith))

@@ -10,10 +10,10 @@ use lib.ListN.{length, List·getD-eq-default}
 use lib.Dec.{T, eqb, ltb}
 use borrow.Author.Tests.{ltb-true, ltb-false, eqb-true, eqb-false}
 use Rattle.model.specs.Bounded.{someBelow}
-use Rattle.model.specs.Memory.{Heap, goodBuffers, words, state, globalsState, phase, root, word, slot, wordOf, addressOf}
-use Rattle.model.specs.Classes.{classPages}
+use Rattle.model.specs.Memory.{Heap, goodBuffers, words, state, globalsState, phase, root, word, slot, wordOf, addressOf, stackCount, slotCount, firstState, rootWords, pageWords, maxPages, entryNumbers, bitmapWords}
+use Rattle.model.specs.Classes.{classPages, kinds, fewestLarge, mostLarge}
 use Rattle.model.specs.Bitmaps.{Part, allocated, marked, gray, pointer, is}
-use Rattle.model.specs.Spans.{owner, pageCount, kindEntry, kindAt, classAt, spanOf, elementOf, elementNumber, elements, elementStart, kept}
+use Rattle.model.specs.Spans.{owner, pageCount, kindEntry, kindAt, classAt, spanOf, elementOf, elementNumber, elements, elementStart, kept, unsweptFlag}
 use Rattle.model.specs.Audit.{goodKind, goodFirst, goodPage, goodWord, goodStack, goodStates, isReference, audit}
 use Rattle.model.proofs.Tests.{of-true, and-iff, or-iff, eqb-iff, leb-iff}
 use Rattle.model.proofs.Bounded.{some-iff}
@@ -24,7 +24,7 @@ use Rattle.model.proofs.Facts.{Sized, Reference, Audited}
 
 -- the buffers' lengths
 
-pub sized-iff : (h : Heap) → T (goodBuffers h) ↔ (((((1 ≤ h .pages) × (h .pages ≤ 256)) × (length (h .arena) ≡ 1024 * h .pages)) × (length (h .table) ≡ 3 * h .pages)) × (length (h .bits) ≡ 64 * h .pages)) × (length (h .roots) ≡ 562)
+pub sized-iff : (h : Heap) → T (goodBuffers h) ↔ (((((1 ≤ h .pages) × (h .pages ≤ maxPages)) × (length (h .arena) ≡ pageWords * h .pages)) × (length (h .table) ≡ entryNumbers * h .pages)) × (length (h .bits) ≡ bitmapWords * h .pages)) × (length (h .roots) ≡ rootWords)
 unfolding goodBuffers
 sized-iff h = simp tests Iff·rfl
 
@@ -37,7 +37,7 @@ sized-good h Z = sized-iff h .1 (((((Z .low, Z .high), Z .arena), Z .table), Z .
 
 -- one page
 
-entry-iff : (t : List ℕ) (s : ℕ) → T (goodKind t s) ↔ ((kindEntry t s < 512) × (kindAt t s < 134)) × ((classAt t s ≡ 0 → (5 ≤ pageCount t s) × (pageCount t s ≤ 128)) × (classAt t s ≢ 0 → pageCount t s ≡ classPages (classAt t s)))
+entry-iff : (t : List ℕ) (s : ℕ) → T (goodKind t s) ↔ ((kindEntry t s < unsweptFlag + unsweptFlag) × (kindAt t s < kinds)) × ((classAt t s ≡ 0 → (fewestLarge ≤ pageCount t s) × (pageCount t s ≤ mostLarge)) × (classAt t s ≢ 0 → pageCount t s ≡ classPages (classAt t s)))
 unfolding goodKind
 entry-iff t s = simp tests Iff·rfl
 
@@ -46,7 +46,7 @@ FirstFacts h s =
     let t = h .table in
     (((T (goodKind t s) × (s + pageCount t s ≤ h .pages))
     × ((k : ℕ) → k < pageCount t s - 1 → ((owner t (s + 1 + k) ≡ s + 1) × (pageCount t (s + 1 + k) ≡ 0)) × (kindEntry t (s + 1 + k) ≡ 0)))
-    × (256 ≤ kindEntry t s → phase h ≡ 2)) × T (someBelow (elements t s) (λ k. is allocated h (elementStart t s k)))
+    × (unsweptFlag ≤ kindEntry t s → phase h ≡ 2)) × T (someBelow (elements t s) (λ k. is allocated h (elementStart t s k)))
 
 first-iff : (h : Heap) (s : ℕ) → T (goodFirst h s) ↔ FirstFacts h s
 unfolding goodFirst
@@ -70,11 +70,11 @@ abbrev WordFacts : Heap → ℕ → Type 0
 WordFacts h w =
     let t = h .table in
     let s = spanOf t w in
-    ((((T (is allocated h w) → ((owner t (w / 1024) ≢ 0) × (elementNumber t s w < elements t s)) × (elementOf t w ≡ w))
-    × (T (is marked h w) → (T (is allocated h w) × (phase h ≢ 0)) × (phase h ≡ 2 → 256 ≤ kindEntry t s)))
+    ((((T (is allocated h w) → ((owner t (w / pageWords) ≢ 0) × (elementNumber t s w < elements t s)) × (elementOf t w ≡ w))
+    × (T (is marked h w) → (T (is allocated h w) × (phase h ≢ 0)) × (phase h ≡ 2 → unsweptFlag ≤ kindEntry t s)))
     × (T (is gray h w) → (T (is marked h w) × (kindAt t s % 2 ≡ 0)) × (phase h ≡ 1)))
     × ((T (is allocated h w) × (kindAt t s % 2 ≡ 0) → T (is pointer h w))
-    × (T (is pointer h w) → ((((owner t (w / 1024) ≢ 0) × (elementNumber t s w < elements t s)) × (kindAt t s % 2 ≡ 0)) × T (is allocated h (elementOf t w))) × (elementOf t w ≢ w → T (is pointer h (w - 1))))))
+    × (T (is pointer h w) → ((((owner t (w / pageWords) ≢ 0) × (elementNumber t s w < elements t s)) × (kindAt t s % 2 ≡ 0)) × T (is allocated h (elementOf t w))) × (elementOf t w ≢ w → T (is pointer h (w - 1))))))
     × (T (is pointer h w) × T (kept h (elementOf t w)) → T (isReference h (word h w)))
 
 word-iff : (h : Heap) (w : ℕ) → T (goodWord h w) ↔ WordFacts h w
@@ -83,7 +83,7 @@ word-iff h w = simp (tests, else-iff) Iff·rfl
 
 -- one stack, the states, one reference
 
-stack-iff : (h : Heap) (s : ℕ) → T (goodStack h s) ↔ ((state h s ≤ 2) × (state h s ≡ 2 → phase h ≡ 1)) × (state h s ≡ 0 → (i : ℕ) → i < 32 → slot h s i ≡ 0)
+stack-iff : (h : Heap) (s : ℕ) → T (goodStack h s) ↔ ((state h s ≤ 2) × (state h s ≡ 2 → phase h ≡ 1)) × (state h s ≡ 0 → (i : ℕ) → i < slotCount → slot h s i ≡ 0)
 unfolding goodStack
 stack-iff h s = simp tests Iff·rfl
 
@@ -106,13 +106,13 @@ reference-iff h v = (λ x. to (or-iff (eqb v 0) (eqb v (addressOf (wordOf v)) &&
 -- the whole
 
 audit-iff : (h : Heap) → T (audit h) ↔
-    (((T (goodStates h) × ((s : ℕ) → s < 16 → T (goodStack h s))) × ((g : ℕ) → g < h .pages → T (goodPage h g)))
-    × ((w : ℕ) → w < words h → T (goodWord h w))) × ((i : ℕ) → i < 544 → T (isReference h (root h i)))
+    (((T (goodStates h) × ((s : ℕ) → s < stackCount → T (goodStack h s))) × ((g : ℕ) → g < h .pages → T (goodPage h g)))
+    × ((w : ℕ) → w < words h → T (goodWord h w))) × ((i : ℕ) → i < firstState → T (isReference h (root h i)))
 unfolding audit
 audit-iff h = simp tests Iff·rfl
 
 -- a page past the end reads as free
-past : (P : ℕ) (t : List ℕ) → length t ≡ 3 * P → (g : ℕ) → P ≤ g → (owner t g ≡ 0) × (pageCount t g ≡ 0) × (kindEntry t g ≡ 0)
+past : (P : ℕ) (t : List ℕ) → length t ≡ entryNumbers * P → (g : ℕ) → P ≤ g → (owner t g ≡ 0) × (pageCount t g ≡ 0) × (kindEntry t g ≡ 0)
 unfolding owner pageCount kindEntry
 past P t z g l = (List·getD-eq-default t 0 (omega arith), List·getD-eq-default t 0 (omega arith), List·getD-eq-default t 0 (omega arith))
 
@@ -179,7 +179,7 @@ audit-facts h Z ok = record {
     none = λ e w. off (is marked h w) (λ a. at marked w a .0 .0 .0 .1 a .0 .1 e);
     swept = λ d s e. low (kindEntry (h .table) s) (λ l. d (first-page h pages s e .0 .1 l));
     plain = λ d w. off (is gray h w) (λ a. d (at gray w a .0 .0 .1 a .1));
-    unswept = λ e w a. leb-iff 256 _ .1 (at marked w a .0 .0 .0 .1 a .1 e);
+    unswept = λ e w a. leb-iff unsweptFlag _ .1 (at marked w a .0 .0 .0 .1 a .1 e);
   };
   references = record {
     root = λ i l. reference-iff h (root h i) .0 (x .1 i l);
@@ -194,8 +194,8 @@ audit-facts h Z ok = record {
   occupied = some;
 }
   where
-    x : (((T (goodStates h) × ((s : ℕ) → s < 16 → T (goodStack h s))) × ((g : ℕ) → g < h .pages → T (goodPage h g)))
-        × ((w : ℕ) → w < words h → T (goodWord h w))) × ((i : ℕ) → i < 544 → T (isReference h (root h i)))
+    x : (((T (goodStates h) × ((s : ℕ) → s < stackCount → T (goodStack h s))) × ((g : ℕ) → g < h .pages → T (goodPage h g)))
+        × ((w : ℕ) → w < words h → T (goodWord h w))) × ((i : ℕ) → i < firstState → T (isReference h (root h i)))
     x = audit-iff h .0 ok
 
     pages : (g : ℕ) → PageFacts h g
@@ -214,12 +214,12 @@ audit-facts h Z ok = record {
     off true f = absurd (f tt)
     off false f = refl
 
-    low : (k : ℕ) → (256 ≤ k → ⊥) → k < 256
-    low k f = go (ltb k 256) refl
+    low : (k : ℕ) → (unsweptFlag ≤ k → ⊥) → k < unsweptFlag
+    low k f = go (ltb k unsweptFlag) refl
       where
-        go : (b : Bool) → ltb k 256 ≡ b → k < 256
-        go true e = ltb-true k 256 e
-        go false e = absurd (f (ltb-false k 256 e))
+        go : (b : Bool) → ltb k unsweptFlag ≡ b → k < unsweptFlag
+        go true e = ltb-true k unsweptFlag e
+        go false e = absurd (f (ltb-false k unsweptFlag e))
 
     some : (s : ℕ) → IsSpan (h .table) s → (w : ℕ) × T (is allocated h w) × (spanOf (h .table) w ≡ s)
     some s e =
@@ -253,7 +253,7 @@ facts-audit h F = audit-iff h .1 (
         let z : elementStart (h .table) s (elementNumber (h .table) s (f .0)) ≡ f .0 = rw (f .2) at (E .first) in
         some-iff (elements (h .table) s) (λ k. is allocated h (elementStart (h .table) s k)) .1 (elementNumber (h .table) s (f .0), n, rw z (f .1))
 
-    unswept : (s : ℕ) → IsSpan (h .table) s → 256 ≤ kindEntry (h .table) s → phase h ≡ 2
+    unswept : (s : ℕ) → IsSpan (h .table) s → unsweptFlag ≤ kindEntry (h .table) s → phase h ≡ 2
     unswept s e l = go (eqb (phase h) 2) refl
       where
         go : (b : Bool) → eqb (phase h) 2 ≡ b → phase h ≡ 2
@@ -288,7 +288,7 @@ facts-audit h F = audit-iff h .1 (
         (
           (
             (λ a. let f = F .bits .element w a in ((omega (arith, f .lies .used), f .lies .number), f .first)),
-            (λ a. ((F .bits .marks w a, λ e. true≢false (sym (of-true _ a) ∙ F .phases .none e w)), λ e. leb-iff 256 _ .0 (F .phases .unswept e w a))),
+            (λ a. ((F .bits .marks w a, λ e. true≢false (sym (of-true _ a) ∙ F .phases .none e w)), λ e. leb-iff unsweptFlag _ .0 (F .phases .unswept e w a))),
           ),
           (λ a. let f = F .bits .grays w a in ((f .0, eqb-iff _ 0 .0 (f .1)), inked w a)),
         ),

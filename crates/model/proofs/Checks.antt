@@ -8,14 +8,14 @@ use native.Mathlib.Omega.{arith}
 use lib.Dec.{T, eqb, ltb}
 use borrow.Author.Tests.{eqb-true, eqb-false, ltb-true, ltb-false}
 use Rattle.model.specs.Bounded.{allBelow, someBelow}
-use Rattle.model.specs.Memory.{Heap, goodBuffers, words, state, phase, slot, globalsState}
+use Rattle.model.specs.Memory.{Heap, goodBuffers, words, state, phase, slot, globalsState, stackCount, slotCount, globalCount, wordBytes}
 use Rattle.model.specs.Answers.{_given_, _orElse_}
 use Rattle.model.specs.Bitmaps.{is, gray}
 use Rattle.model.specs.Spans.{elementWords, spanOf, pointerCount}
 use Rattle.model.specs.Checks.{slotRefusal, slotsRefusal, globalRefusal, pointerRefusal, numberRefusal, recordAt, openRefusal}
 use Rattle.model.specs.Audit.{audit}
 use Rattle.model.specs.Allocate.{roomFor, roomRefusal, allocateRefusal, someUnswept}
-use Rattle.model.specs.Classes.{kindOf, pagesFor}
+use Rattle.model.specs.Classes.{kindOf, pagesFor, maxSize}
 use Rattle.model.specs.Cycle.{firstGray, finishRefusal}
 use Rattle.model.specs.Calls.{entry}
 use Rattle.model.proofs.Tests.{is-true, of-true, and-iff, nor-iff, not-not-iff, implies-iff, eqb-iff, neqb-iff, ltb-iff, nltb-iff, leb-iff, nleb-iff}
@@ -47,29 +47,29 @@ pub ruleset passes = (given-iff, orElse-iff, none-iff, and-iff, nor-iff, not-not
 
 -- a stack that is open
 pub record OpenStack (h : Heap) (s : ℕ) : Type 0 where
-  pub below : s < 16
+  pub below : s < stackCount
   pub isOpen : state h s ≢ 0
 
 pub open-passed : (h : Heap) (s : ℕ) → openRefusal h s ≡ 0 → OpenStack h s
 open-passed h s e = let x = simp passes at e in record { below = x .0; isOpen = x .1 }
 
-pub slot-passed : (h : Heap) (s i : ℕ) → slotRefusal h s i ≡ 0 → OpenStack h s × (i < 32)
+pub slot-passed : (h : Heap) (s i : ℕ) → slotRefusal h s i ≡ 0 → OpenStack h s × (i < slotCount)
 unfolding slotRefusal
 slot-passed h s i e = let x = simp passes at e in (record { below = x .0 .0; isOpen = x .0 .1 }, x .1)
 
-pub slots-passed : (h : Heap) (s i j : ℕ) → slotsRefusal h s i j ≡ 0 → OpenStack h s × (i < 32) × (j < 32)
+pub slots-passed : (h : Heap) (s i j : ℕ) → slotsRefusal h s i j ≡ 0 → OpenStack h s × (i < slotCount) × (j < slotCount)
 unfolding slotsRefusal
 slots-passed h s i j e = let x = simp passes at e in (record { below = x .0 .0; isOpen = x .0 .1 }, x .1 .0, x .1 .1)
 
-pub global-passed : (h : Heap) (s i g : ℕ) → globalRefusal h s i g ≡ 0 → OpenStack h s × (i < 32) × (g < 32)
+pub global-passed : (h : Heap) (s i g : ℕ) → globalRefusal h s i g ≡ 0 → OpenStack h s × (i < globalCount) × (g < globalCount)
 unfolding globalRefusal
 global-passed h s i g e = let x = simp passes at e in (record { below = x .0 .0; isOpen = x .0 .1 }, x .1 .0, x .1 .1)
 
 -- a pointer word or a number word of the record in slot j
 pub record PointerField (h : Heap) (s i j f : ℕ) : Type 0 where
   pub stack : OpenStack h s
-  pub other : i < 32
-  pub slot : j < 32
+  pub other : i < slotCount
+  pub slot : j < slotCount
   pub named : Rattle.model.specs.Memory.slot h s j ≢ 0
   pub field : f < pointerCount h (recordAt h s j)
 
@@ -80,7 +80,7 @@ pointer-passed h s i j f e = let x = simp passes at e in
 
 pub record NumberField (h : Heap) (s j f : ℕ) : Type 0 where
   pub stack : OpenStack h s
-  pub slot : j < 32
+  pub slot : j < slotCount
   pub named : Rattle.model.specs.Memory.slot h s j ≢ 0
   pub low : pointerCount h (recordAt h s j) ≤ f
   pub high : f < elementWords (h .table) (spanOf (h .table) (recordAt h s j))
@@ -93,10 +93,10 @@ number-passed h s j f e = let x = simp passes at e in
 -- an allocation: its slot, its size, and room
 pub record Allocates (h : Heap) (s i size p : ℕ) : Type 0 where
   pub stack : OpenStack h s
-  pub slot : i < 32
+  pub slot : i < slotCount
   pub some : size ≢ 0
-  pub limit : size ≤ 1048576
-  pub pointers : p ≤ size / 8
+  pub limit : size ≤ maxSize
+  pub pointers : p ≤ size / wordBytes
   pub room : T (roomFor h (kindOf size p) (pagesFor size))
 
 pub room-passed : (h : Heap) (kind n : ℕ) → roomRefusal h kind n ≡ 0 → T (roomFor h kind n)
@@ -116,7 +116,7 @@ allocate-passed h s i size p e = let x = simp passes at e in
 -- nothing is gray
 pub record Finishes (h : Heap) : Type 0 where
   pub phase : Rattle.model.specs.Memory.phase h ≡ 1
-  pub stacks : (s : ℕ) → s < 16 → state h s ≢ 2
+  pub stacks : (s : ℕ) → s < stackCount → state h s ≢ 2
   pub globals : globalsState h ≢ 2
   pub records : (w : ℕ) → is gray h w ≡ false
 

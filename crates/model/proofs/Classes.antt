@@ -6,8 +6,9 @@ use mathlib.Core.Path.{_≡_, refl, sym}
 use native.Mathlib.Omega.{arith}
 use lib.Dec.{eqb, ltb}
 use borrow.Author.Tests.{ltb-true, ltb-false, eqb-true, eqb-false, ne-eqb, lt-ltb, le-ltb, leb-true, leb-false}
+use Rattle.model.specs.Memory.{pageWords, wordBytes, pageBytes}
 use Rattle.model.specs.Bounded.{_==_, _<?_, _≤?_, allBelow, firstBelow}
-use Rattle.model.specs.Classes.{classRows, elementBytes, spanBytes, classOf, elementsOf, elementWordsOf, classPages, pagesFor, kindOf}
+use Rattle.model.specs.Classes.{classRows, elementBytes, spanBytes, classOf, elementsOf, elementWordsOf, classPages, pagesFor, kindOf, rows, kinds, maxSmall, maxSize, fewestLarge, mostLarge}
 use Rattle.model.proofs.Tests.{is-true}
 use Rattle.model.proofs.Bounded.{all-at, first-props, First}
 use Rattle.model.proofs.Rules.{tests}
@@ -16,9 +17,9 @@ use Rattle.model.proofs.Rules.{tests}
 goodRow : ℕ → Bool
 goodRow k =
     0 <? elementWordsOf (k + 1) 0 && 0 <? classPages (k + 1) && classPages (k + 1) ≤? 10 && 0 <? elementsOf (k + 1)
-    && elementsOf (k + 1) * elementWordsOf (k + 1) 0 ≤? 1024 * classPages (k + 1)
+    && elementsOf (k + 1) * elementWordsOf (k + 1) 0 ≤? pageWords * classPages (k + 1)
 
-good-rows : allBelow 66 goodRow ≡ true
+good-rows : allBelow rows goodRow ≡ true
 unfolding allBelow goodRow elementWordsOf elementsOf classPages elementBytes spanBytes classRows
 good-rows = refl
 
@@ -26,24 +27,24 @@ good-rows = refl
 pub record Fits (c n : ℕ) : Type 0 where
   pub words : 0 < elementWordsOf c n
   pub pages : 0 < n
-  pub short : n ≤ 128
+  pub short : n ≤ mostLarge
   pub some : 0 < elementsOf c
-  pub inside : elementsOf c * elementWordsOf c n ≤ 1024 * n
+  pub inside : elementsOf c * elementWordsOf c n ≤ pageWords * n
 
 -- the words of an element: of all pages in class 0, else of the class's bytes
-pub large-words : (n : ℕ) → elementWordsOf 0 n ≡ 1024 * n
+pub large-words : (n : ℕ) → elementWordsOf 0 n ≡ pageWords * n
 unfolding elementWordsOf
 large-words n = refl
 
-pub small-words : (c n : ℕ) → c ≢ 0 → elementWordsOf c n ≡ elementBytes c / 8
+pub small-words : (c n : ℕ) → c ≢ 0 → elementWordsOf c n ≡ elementBytes c / wordBytes
 unfolding elementWordsOf
 small-words c n d = rw (ne-eqb c 0 d)
 
-large-class : (size : ℕ) → ltb 32768 size ≡ true → classOf size ≡ 0
+large-class : (size : ℕ) → ltb maxSmall size ≡ true → classOf size ≡ 0
 unfolding classOf
 large-class size e = rw e
 
-pub large-pages : (size : ℕ) → classOf size ≡ 0 → pagesFor size ≡ (size + 8191) / 8192
+pub large-pages : (size : ℕ) → classOf size ≡ 0 → pagesFor size ≡ (size + (pageBytes - 1)) / pageBytes
 unfolding pagesFor
 large-pages size c = rw c
 
@@ -56,94 +57,94 @@ pub words-any : (c m n : ℕ) → c ≢ 0 → elementWordsOf c m ≡ elementWord
 unfolding elementWordsOf
 words-any c m n d = rw (ne-eqb c 0 d)
 
-pub small-fits : (c : ℕ) → c ≢ 0 → c ≤ 66 → Fits c (classPages c)
+pub small-fits : (c : ℕ) → c ≢ 0 → c ≤ rows → Fits c (classPages c)
 unfolding goodRow
 small-fits c d l =
     let e : c - 1 + 1 ≡ c = omega arith in
-    let x = simp tests at (is-true _ (rw e at (all-at 66 goodRow good-rows (c - 1) (omega arith)))) in
+    let x = simp tests at (is-true _ (rw e at (all-at rows goodRow good-rows (c - 1) (omega arith)))) in
     let z = words-any c (classPages c) 0 d in
     record { words = rw z (x .0 .0 .0 .0); pages = x .0 .0 .0 .1; short = omega (arith, x .0 .0 .1); some = x .0 .1; inside = rw z (x .1) }
 
-pub large-fits : (n : ℕ) → 0 < n → n ≤ 128 → Fits 0 n
+pub large-fits : (n : ℕ) → 0 < n → n ≤ mostLarge → Fits 0 n
 unfolding elementWordsOf elementsOf
 large-fits n l m = record { words = omega arith; pages = l; short = m; some = omega arith; inside = omega arith }
 
 -- a size of 1 to 32,768 has a class, and fits its element
 record Small (size : ℕ) : Type 0 where
   low : classOf size ≢ 0
-  high : classOf size ≤ 66
+  high : classOf size ≤ rows
   bytes : size ≤ elementBytes (classOf size)
 
-last-row : elementBytes 66 ≡ 32768
+last-row : elementBytes rows ≡ maxSmall
 unfolding elementBytes classRows
 last-row = refl
 
-small-class : (size : ℕ) → size ≤ 32768 → Small size
+small-class : (size : ℕ) → size ≤ maxSmall → Small size
 small-class size l = record { low = omega (arith, is); high = omega (arith, is, below); bytes = rw is (leb-true _ _ (f .holds below)) }
   where
-    f : First 66 (λ k. size ≤? elementBytes (k + 1)) (firstBelow 66 (λ k. size ≤? elementBytes (k + 1)))
-    f = first-props 66 (λ k. size ≤? elementBytes (k + 1))
+    f : First rows (λ k. size ≤? elementBytes (k + 1)) (firstBelow rows (λ k. size ≤? elementBytes (k + 1)))
+    f = first-props rows (λ k. size ≤? elementBytes (k + 1))
 
-    is : classOf size ≡ firstBelow 66 (λ k. size ≤? elementBytes (k + 1)) + 1
-    is = unfold classOf in rw (le-ltb 32768 size l)
+    is : classOf size ≡ firstBelow rows (λ k. size ≤? elementBytes (k + 1)) + 1
+    is = unfold classOf in rw (le-ltb maxSmall size l)
 
-    below : firstBelow 66 (λ k. size ≤? elementBytes (k + 1)) < 66
-    below = go (ltb (firstBelow 66 (λ k. size ≤? elementBytes (k + 1))) 66) refl
+    below : firstBelow rows (λ k. size ≤? elementBytes (k + 1)) < rows
+    below = go (ltb (firstBelow rows (λ k. size ≤? elementBytes (k + 1))) rows) refl
       where
-        go : (b : Bool) → ltb (firstBelow 66 (λ k. size ≤? elementBytes (k + 1))) 66 ≡ b → firstBelow 66 (λ k. size ≤? elementBytes (k + 1)) < 66
-        go true e = ltb-true (firstBelow 66 (λ k. size ≤? elementBytes (k + 1))) 66 e
-        go false e = absurd (omega (arith, leb-false size (elementBytes 66) (f .before 65 (omega (arith, ltb-false (firstBelow 66 (λ k. size ≤? elementBytes (k + 1))) 66 e))), last-row))
+        go : (b : Bool) → ltb (firstBelow rows (λ k. size ≤? elementBytes (k + 1))) rows ≡ b → firstBelow rows (λ k. size ≤? elementBytes (k + 1)) < rows
+        go true e = ltb-true (firstBelow rows (λ k. size ≤? elementBytes (k + 1))) rows e
+        go false e = absurd (omega (arith, leb-false size (elementBytes rows) (f .before (rows - 1) (omega (arith, ltb-false (firstBelow rows (λ k. size ≤? elementBytes (k + 1))) rows e))), last-row))
 
-pub class-within : (size : ℕ) → classOf size ≤ 66
-class-within size = go (ltb 32768 size) refl
+pub class-within : (size : ℕ) → classOf size ≤ rows
+class-within size = go (ltb maxSmall size) refl
   where
-    go : (b : Bool) → ltb 32768 size ≡ b → classOf size ≤ 66
+    go : (b : Bool) → ltb maxSmall size ≡ b → classOf size ≤ rows
     go true e = rw (large-class size e) (omega arith)
-    go false e = small-class size (ltb-false 32768 size e) .high
+    go false e = small-class size (ltb-false maxSmall size e) .high
 
 -- a size has class 0 only where it is too large for the others
-pub class-zero : (size : ℕ) → classOf size ≡ 0 → 32768 < size
-class-zero size h = go (ltb 32768 size) refl
+pub class-zero : (size : ℕ) → classOf size ≡ 0 → maxSmall < size
+class-zero size h = go (ltb maxSmall size) refl
   where
-    go : (b : Bool) → ltb 32768 size ≡ b → 32768 < size
-    go true e = ltb-true 32768 size e
-    go false e = absurd (small-class size (ltb-false 32768 size e) .low h)
+    go : (b : Bool) → ltb maxSmall size ≡ b → maxSmall < size
+    go true e = ltb-true maxSmall size e
+    go false e = absurd (small-class size (ltb-false maxSmall size e) .low h)
 
-pub kind-within : (size p : ℕ) → kindOf size p < 134
+pub kind-within : (size p : ℕ) → kindOf size p < kinds
 unfolding kindOf
 kind-within size p = go (eqb p 0)
   where
-    go : (b : Bool) → 2 * classOf size + cond b 1 0 < 134
+    go : (b : Bool) → 2 * classOf size + cond b 1 0 < kinds
     go true = omega (arith, class-within size)
     go false = omega (arith, class-within size)
 
 -- the span that a size gets
-pub size-fits : (size : ℕ) → size ≤ 1048576 → Fits (classOf size) (pagesFor size)
-size-fits size l = go (ltb 32768 size) refl
+pub size-fits : (size : ℕ) → size ≤ maxSize → Fits (classOf size) (pagesFor size)
+size-fits size l = go (ltb maxSmall size) refl
   where
-    go : (b : Bool) → ltb 32768 size ≡ b → Fits (classOf size) (pagesFor size)
+    go : (b : Bool) → ltb maxSmall size ≡ b → Fits (classOf size) (pagesFor size)
     go true e =
-        let h = ltb-true 32768 size e in
+        let h = ltb-true maxSmall size e in
         let c = large-class size e in
         let n = large-pages size c in
         rw c (large-fits (pagesFor size) (omega arith) (omega arith))
     go false e =
-        let s = small-class size (ltb-false 32768 size e) in
+        let s = small-class size (ltb-false maxSmall size e) in
         rw (small-pages size (s .low)) (small-fits (classOf size) (s .low) (s .high))
 
 -- what an accepted size and number of pointers take: the class, its kind and the pages of a new span
 pub record Takes (size p : ℕ) : Type 0 where
-  pub kind : kindOf size p < 134
+  pub kind : kindOf size p < kinds
   pub class : kindOf size p / 2 ≡ classOf size
   pub scan : (kindOf size p % 2 == 0) ≡ ltb 0 p
   pub fits : Fits (classOf size) (pagesFor size)
-  pub pages : (classOf size ≡ 0 → (5 ≤ pagesFor size) × (pagesFor size ≤ 128)) × (classOf size ≢ 0 → pagesFor size ≡ classPages (classOf size))
+  pub pages : (classOf size ≡ 0 → (fewestLarge ≤ pagesFor size) × (pagesFor size ≤ mostLarge)) × (classOf size ≢ 0 → pagesFor size ≡ classPages (classOf size))
   pub pointers : p ≤ elementWordsOf (classOf size) (pagesFor size)
 
-pub takes : (size p : ℕ) → size ≢ 0 → size ≤ 1048576 → p ≤ size / 8 → Takes size p
-takes size p d l m = go (ltb 32768 size) refl
+pub takes : (size p : ℕ) → size ≢ 0 → size ≤ maxSize → p ≤ size / wordBytes → Takes size p
+takes size p d l m = go (ltb maxSmall size) refl
   where
-    bit : (b : Bool) (c : ℕ) → c ≤ 66 → (2 * c + cond b 1 0 < 134) × ((2 * c + cond b 1 0) / 2 ≡ c) × ((2 * c + cond b 1 0) % 2 ≡ cond b 1 0)
+    bit : (b : Bool) (c : ℕ) → c ≤ rows → (2 * c + cond b 1 0 < kinds) × ((2 * c + cond b 1 0) / 2 ≡ c) × ((2 * c + cond b 1 0) % 2 ≡ cond b 1 0)
     bit true c h = (omega arith, omega arith, omega arith)
     bit false c h = (omega arith, omega arith, omega arith)
 
@@ -157,9 +158,9 @@ takes size p d l m = go (ltb 32768 size) refl
     kind : (c : ℕ) → classOf size ≡ c → kindOf size p ≡ 2 * c + cond (eqb p 0) 1 0
     kind c e = unfold kindOf in rw e
 
-    go : (b : Bool) → ltb 32768 size ≡ b → Takes size p
+    go : (b : Bool) → ltb maxSmall size ≡ b → Takes size p
     go true e =
-        let h = ltb-true 32768 size e in
+        let h = ltb-true maxSmall size e in
         let c = large-class size e in
         let n = large-pages size c in
         let k = bit (eqb p 0) 0 (omega arith) in
@@ -172,7 +173,7 @@ takes size p d l m = go (ltb 32768 size) refl
           pointers = rw (c, large-words (pagesFor size)) (omega arith);
         }
     go false e =
-        let s = small-class size (ltb-false 32768 size e) in
+        let s = small-class size (ltb-false maxSmall size e) in
         let n = small-pages size (s .low) in
         let k = bit (eqb p 0) (classOf size) (s .high) in
         record {

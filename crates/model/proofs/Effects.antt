@@ -9,13 +9,13 @@ use lib.ListN.{length, set}
 use lib.Dec.{T, eqb}
 use borrow.Author.Tests.{not-true}
 use Rattle.model.specs.Bounded.{firstBelow}
-use Rattle.model.specs.Memory.{Heap, lent, withRoots, putWords, root, slot, slotAt, stateAt, addressOf, phase}
+use Rattle.model.specs.Memory.{Heap, lent, withRoots, putWords, root, slot, slotAt, stateAt, addressOf, phase, stackCount, slotCount, firstState, globalsStateAt, phaseAt, pageWords}
 use Rattle.model.specs.Answers.{outcome, _orElse_}
 use Rattle.model.specs.Checks.{phaseRefusal, openRefusal}
 use Rattle.model.specs.Classes.{classOf, kindOf, pagesFor, elementsOf, elementWordsOf}
 use Rattle.model.specs.declared.Answer.the-variants.{Done, Value}
 use Rattle.model.specs.Bitmaps.{Part, allocated, marked, pointer, is, putBit, putBits}
-use Rattle.model.specs.Spans.{pageCount, kindEntry, elements, elementWords, elementStart, elementNumber, freePage, spanPage, putPage, putPages}
+use Rattle.model.specs.Spans.{pageCount, kindEntry, elements, elementWords, elementStart, elementNumber, freePage, spanPage, putPage, putPages, unsweptFlag}
 use Rattle.model.specs.Shading.{shade, barrier}
 use Rattle.model.specs.Allocate.{freeElement, hasRoom, newBits, newTable, newWord, allocateRefusal, allocate}
 use Rattle.model.specs.Cycle.{sweptBits, sweptTable, nothingLeft, start, scanStack, scanOutcome}
@@ -34,15 +34,15 @@ unfolding barrier
 barrier-is h old new = refl
 
 -- the bits after the birth of a record of p pointers at word w
-module _ (h : Heap) (w p : ℕ) (Z : Sized h) (hw : w < 1024 * h .pages) (l : w + p ≤ 1024 * h .pages) where
+module _ (h : Heap) (w p : ℕ) (Z : Sized h) (hw : w < pageWords * h .pages) (l : w + p ≤ pageWords * h .pages) where
   abbrev N : ℕ
-  N = 1024 * h .pages
+  N = pageWords * h .pages
 
   abbrev b₀ : List ℕ
-  b₀ = putBit (1024 * h .pages) allocated w true (h .bits)
+  b₀ = putBit (pageWords * h .pages) allocated w true (h .bits)
 
   abbrev b₁ : List ℕ
-  b₁ = putBits (1024 * h .pages) pointer w p (λ v. true) (putBit (1024 * h .pages) allocated w true (h .bits))
+  b₁ = putBits (pageWords * h .pages) pointer w p (λ v. true) (putBit (pageWords * h .pages) allocated w true (h .bits))
 
   len₁ : length b₁ ≡ length (h .bits)
   len₁ = run-length N pointer w p (λ v. true) b₀ ∙ part-length N allocated w true (h .bits)
@@ -80,47 +80,47 @@ module _ (h : Heap) (Z : Sized h) (s : ℕ) (l : s + pageCount (h .table) s ≤ 
   -- over the span's words: marks cleared, allocated set to m, pointers set to g
   abbrev three : (ℕ → Bool) → (ℕ → Bool) → List ℕ
   three m g =
-      let N = 1024 * h .pages in
-      let n = 1024 * pageCount (h .table) s in
-      putBits N marked (1024 * s) n (λ w. false) (putBits N allocated (1024 * s) n m (putBits N pointer (1024 * s) n g (h .bits)))
+      let N = pageWords * h .pages in
+      let n = pageWords * pageCount (h .table) s in
+      putBits N marked (pageWords * s) n (λ w. false) (putBits N allocated (pageWords * s) n m (putBits N pointer (pageWords * s) n g (h .bits)))
 
   -- a pointer bit stays where its element is marked
   abbrev stays : ℕ → Bool
   stays = λ w. is pointer h w && is marked h (elementStart (h .table) s (elementNumber (h .table) s w))
 
-  three-at : (m g : ℕ → Bool) (q : Part) (v : ℕ) → let d = within (1024 * s) (1024 * pageCount (h .table) s) v in bit (h .pages) q (three m g) v ≡
+  three-at : (m g : ℕ → Bool) (q : Part) (v : ℕ) → let d = within (pageWords * s) (pageWords * pageCount (h .table) s) v in bit (h .pages) q (three m g) v ≡
       cond (samePart q marked && d) false (cond (samePart q allocated && d) (m v) (cond (samePart q pointer && d) (g v) (is q h v)))
   three-at m g q v = rw (
-    part-run N marked (1024 * s) n (λ w. false) b₀ e f₀ q v,
-    part-run N allocated (1024 * s) n m b₃ e f₃ q v,
-    part-run N pointer (1024 * s) n g (h .bits) e (four h Z) q v,
+    part-run N marked (pageWords * s) n (λ w. false) b₀ e f₀ q v,
+    part-run N allocated (pageWords * s) n m b₃ e f₃ q v,
+    part-run N pointer (pageWords * s) n g (h .bits) e (four h Z) q v,
   )
     where
       N : ℕ
-      N = 1024 * h .pages
+      N = pageWords * h .pages
 
       n : ℕ
-      n = 1024 * pageCount (h .table) s
+      n = pageWords * pageCount (h .table) s
 
-      e : 1024 * s + n ≤ N
+      e : pageWords * s + n ≤ N
       e = omega arith
 
       b₃ : List ℕ
-      b₃ = putBits N pointer (1024 * s) n g (h .bits)
+      b₃ = putBits N pointer (pageWords * s) n g (h .bits)
 
       f₃ : Four N b₃
-      f₃ = rw (run-length N pointer (1024 * s) n g (h .bits)) (four h Z)
+      f₃ = rw (run-length N pointer (pageWords * s) n g (h .bits)) (four h Z)
 
       b₀ : List ℕ
-      b₀ = putBits N allocated (1024 * s) n m b₃
+      b₀ = putBits N allocated (pageWords * s) n m b₃
 
       f₀ : Four N b₀
-      f₀ = rw (run-length N allocated (1024 * s) n m b₃) f₃
+      f₀ = rw (run-length N allocated (pageWords * s) n m b₃) f₃
 
   three-length : (m g : ℕ → Bool) → length (three m g) ≡ length (h .bits)
   three-length m g = simp run-length
 
-  pub swept-at : (q : Part) (v : ℕ) → let d = within (1024 * s) (1024 * pageCount (h .table) s) v in bit (h .pages) q (sweptBits h s) v ≡
+  pub swept-at : (q : Part) (v : ℕ) → let d = within (pageWords * s) (pageWords * pageCount (h .table) s) v in bit (h .pages) q (sweptBits h s) v ≡
       cond (samePart q marked && d) false (cond (samePart q allocated && d) (is marked h v)
       (cond (samePart q pointer && d) (is pointer h v && is marked h (startIn (h .table) s v)) (is q h v)))
   unfolding sweptBits
@@ -133,7 +133,7 @@ module _ (h : Heap) (Z : Sized h) (s : ℕ) (l : s + pageCount (h .table) s ≤ 
 -- the page table after it: the span's pages are free if nothing is left, else its first page loses the flag
 pub swept-table : (h : Heap) (s : ℕ) → sweptTable h s ≡
     cond (nothingLeft h s) (putPages s (pageCount (h .table) s) (λ g. freePage) (h .table))
-    (putPage s (spanPage s (pageCount (h .table) s) (kindEntry (h .table) s % 256) s) (h .table))
+    (putPage s (spanPage s (pageCount (h .table) s) (kindEntry (h .table) s % unsweptFlag) s) (h .table))
 unfolding sweptTable
 swept-table h s = refl
 
@@ -142,7 +142,7 @@ pub room-is : (h : Heap) (kind s : ℕ) → T (hasRoom h kind s) → IsSpan (h .
 room-is h kind s ok = let x = simp tests at ok in (x .0 .0, x .0 .1, x .1)
 
 -- a large span has no free element: its one element is allocated
-no-large : {h : Heap} → Audited h → (r : ℕ) → IsSpan (h .table) r → kindEntry (h .table) r % 256 / 2 ≡ 0 → freeElement h r < elements (h .table) r → ⊥
+no-large : {h : Heap} → Audited h → (r : ℕ) → IsSpan (h .table) r → kindEntry (h .table) r % unsweptFlag / 2 ≡ 0 → freeElement h r < elements (h .table) r → ⊥
 unfolding freeElement elementsOf
 no-large {h} F r e c l =
     let f = F .occupied r e in
@@ -160,7 +160,7 @@ no-large {h} F r e c l =
 pub room-words : {h : Heap} → Audited h → (size p : ℕ) → Takes size p → (r : ℕ) → IsSpan (h .table) r → kindEntry (h .table) r ≡ kindOf size p →
     freeElement h r < elements (h .table) r → elementWordsOf (classOf size) (pagesFor size) ≡ elementWords (h .table) r
 room-words {h} F size p K r i e l =
-    let c : kindEntry (h .table) r % 256 / 2 ≡ classOf size = rw e (omega (arith, K .kind, K .class)) in
+    let c : kindEntry (h .table) r % unsweptFlag / 2 ≡ classOf size = rw e (omega (arith, K .kind, K .class)) in
     rw c (words-any (classOf size) (pagesFor size) (pageCount (h .table) r) (λ z. no-large F r i (c ∙ z) l))
 
 -- an allocation, a start and a scan of a stack, written out
@@ -173,10 +173,10 @@ unfolding allocate
 allocate-is h s i size p = refl
 
 pub start-is : (h : Heap) →
-    start h ≡ outcome (phaseRefusal h 0) h Done (withRoots (set (set (putWords 544 16 (λ i. cond (eqb (root h i) 0) 0 2) (h .roots)) 560 2) 561 1) h)
+    start h ≡ outcome (phaseRefusal h 0) h Done (withRoots (set (set (putWords firstState stackCount (λ i. cond (eqb (root h i) 0) 0 2) (h .roots)) globalsStateAt 2) phaseAt 1) h)
 unfolding start
 start-is h = refl
 
-pub scan-stack-is : (h : Heap) (s : ℕ) → scanStack h s ≡ scanOutcome (phaseRefusal h 1 orElse openRefusal h s) 32 (slot h s) (stateAt s) h
+pub scan-stack-is : (h : Heap) (s : ℕ) → scanStack h s ≡ scanOutcome (phaseRefusal h 1 orElse openRefusal h s) slotCount (slot h s) (stateAt s) h
 unfolding scanStack
 scan-stack-is h s = refl

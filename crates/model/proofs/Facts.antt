@@ -9,9 +9,9 @@ use native.Mathlib.Omega.{arith}
 use lib.ListN.{getD, length}
 use lib.Dec.{T, eqb, ltb, leb}
 use borrow.Author.Tests.{ltb-true, lt-leb}
-use Rattle.model.specs.Memory.{Heap, wordOf, addressOf}
+use Rattle.model.specs.Memory.{Heap, wordOf, addressOf, stackCount, slotCount, firstState, globalsStateAt, phaseAt, rootWords, pageWords, maxPages, entryNumbers, bitmapWords}
 use Rattle.model.specs.Bitmaps.{Part, allocated, marked, gray, pointer, bitIn, is}
-use Rattle.model.specs.Spans.{owner, kindEntry, isScan, isUnswept, spanOf, elementOf, elementWords, pointerCount, kept}
+use Rattle.model.specs.Spans.{owner, kindEntry, isScan, isUnswept, spanOf, elementOf, elementWords, pointerCount, kept, unsweptFlag}
 use Rattle.model.proofs.Tests.{of-true, is-true}
 use Rattle.model.proofs.Bounded.{first-props}
 use Rattle.model.proofs.Bitmaps.{Four, bit-inside}
@@ -20,18 +20,18 @@ use Rattle.model.proofs.Spans.{Spans, IsSpan, InElement, Element, own-w
 -- the four lengths, and P
 pub record Sized (h : Heap) : Type 0 where
   pub low : 1 ≤ h .pages
-  pub high : h .pages ≤ 256
-  pub arena : length (h .arena) ≡ 1024 * h .pages
-  pub table : length (h .table) ≡ 3 * h .pages
-  pub bits : length (h .bits) ≡ 64 * h .pages
-  pub roots : length (h .roots) ≡ 562
+  pub high : h .pages ≤ maxPages
+  pub arena : length (h .arena) ≡ pageWords * h .pages
+  pub table : length (h .table) ≡ entryNumbers * h .pages
+  pub bits : length (h .bits) ≡ bitmapWords * h .pages
+  pub roots : length (h .roots) ≡ rootWords
 
-pub four : (h : Heap) → Sized h → Four (1024 * h .pages) (h .bits)
+pub four : (h : Heap) → Sized h → Four (pageWords * h .pages) (h .bits)
 four h Z = omega (arith, Z .bits)
 
 -- the bit of word w in a part of the bitmaps of P pages
 abbrev pub bit : ℕ → Part → List ℕ → ℕ → Bool
-bit P q b w = bitIn (1024 * P) q b w
+bit P q b w = bitIn (pageWords * P) q b w
 
 -- the span of word w is a scan span, is unswept
 abbrev pub scanAt : List ℕ → ℕ → Bool
@@ -52,7 +52,7 @@ pub record Bits (P : ℕ) (t b : List ℕ) : Type 0 where
 -- what depends on the phase
 pub record Phases (P ph : ℕ) (t b : List ℕ) : Type 0 where
   pub none : ph ≡ 0 → (w : ℕ) → bit P marked b w ≡ false
-  pub swept : ph ≢ 2 → (s : ℕ) → IsSpan t s → kindEntry t s < 256
+  pub swept : ph ≢ 2 → (s : ℕ) → IsSpan t s → kindEntry t s < unsweptFlag
   pub plain : ph ≢ 1 → (w : ℕ) → bit P gray b w ≡ false
   pub unswept : ph ≡ 2 → (w : ℕ) → T (bit P marked b w) → T (unsweptAt t w)
 
@@ -65,15 +65,15 @@ abbrev pub Reference : ℕ → List ℕ → List ℕ → ℕ → Type 0
 Reference P t b v = (v ≡ 0) ⊎ ((v ≡ addressOf (wordOf v)) × T (keptAt P t b (wordOf v)))
 
 pub record References (h : Heap) : Type 0 where
-  pub root : (i : ℕ) → i < 544 → Reference (h .pages) (h .table) (h .bits) (getD (h .roots) i 0)
+  pub root : (i : ℕ) → i < firstState → Reference (h .pages) (h .table) (h .bits) (getD (h .roots) i 0)
   pub content : (w : ℕ) → T (is pointer h w) → T (kept h (elementOf (h .table) w)) → Reference (h .pages) (h .table) (h .bits) (getD (h .arena) w 0)
 
 -- the states and the phase
 pub record States (r : List ℕ) : Type 0 where
-  pub phase : getD r 561 0 ≤ 2
-  pub legal : (s : ℕ) → s < 16 → (getD r (544 + s) 0 ≤ 2) × (getD r (544 + s) 0 ≡ 2 → getD r 561 0 ≡ 1)
-  pub globals : (1 ≤ getD r 560 0) × (getD r 560 0 ≤ 2) × (getD r 560 0 ≡ 2 → getD r 561 0 ≡ 1)
-  pub closed : (s i : ℕ) → s < 16 → i < 32 → getD r (544 + s) 0 ≡ 0 → getD r (32 * s + i) 0 ≡ 0
+  pub phase : getD r phaseAt 0 ≤ 2
+  pub legal : (s : ℕ) → s < stackCount → (getD r (firstState + s) 0 ≤ 2) × (getD r (firstState + s) 0 ≡ 2 → getD r phaseAt 0 ≡ 1)
+  pub globals : (1 ≤ getD r globalsStateAt 0) × (getD r globalsStateAt 0 ≤ 2) × (getD r globalsStateAt 0 ≡ 2 → getD r phaseAt 0 ≡ 1)
+  pub closed : (s i : ℕ) → s < stackCount → i < slotCount → getD r (firstState + s) 0 ≡ 0 → getD r (slotCount * s + i) 0 ≡ 0
 
 -- "at least one [allocated] per span"
 abbrev pub Occupied : ℕ → List ℕ → List ℕ → Type 0
@@ -83,18 +83,18 @@ pub record Audited (h : Heap) : Type 0 where
   pub sized : Sized h
   pub spans : Spans (h .pages) (h .table)
   pub bits : Bits (h .pages) (h .table) (h .bits)
-  pub phases : Phases (h .pages) (getD (h .roots) 561 0) (h .table) (h .bits)
+  pub phases : Phases (h .pages) (getD (h .roots) phaseAt 0) (h .table) (h .bits)
   pub references : References h
   pub states : States (h .roots)
   pub occupied : Occupied (h .pages) (h .table) (h .bits)
 
 -- no span is unswept
-pub swept-all : {P : ℕ} {t : List ℕ} → Spans P t → ((s : ℕ) → IsSpan t s → kindEntry t s < 256) → (g : ℕ) → isUnswept t g ≡ false
+pub swept-all : {P : ℕ} {t : List ℕ} → Spans P t → ((s : ℕ) → IsSpan t s → kindEntry t s < unsweptFlag) → (g : ℕ) → isUnswept t g ≡ false
 swept-all {P} {t} F Q g = go (eqb (owner t g) (g + 1)) refl
   where
-    go : (b : Bool) → eqb (owner t g) (g + 1) ≡ b → leb 256 (kindEntry t g) ≡ false
-    go true e = lt-leb 256 (kindEntry t g) (Q g (borrow.Author.Tests.eqb-true (owner t g) (g + 1) e))
-    go false e = lt-leb 256 (kindEntry t g) (omega (arith, F .rest g (borrow.Author.Tests.eqb-false (owner t g) (g + 1) e)))
+    go : (b : Bool) → eqb (owner t g) (g + 1) ≡ b → leb unsweptFlag (kindEntry t g) ≡ false
+    go true e = lt-leb unsweptFlag (kindEntry t g) (Q g (borrow.Author.Tests.eqb-true (owner t g) (g + 1) e))
+    go false e = lt-leb unsweptFlag (kindEntry t g) (omega (arith, F .rest g (borrow.Author.Tests.eqb-false (owner t g) (g + 1) e)))
 
 -- none is but in the sweep phase
 pub not-unswept : {P ph : ℕ} {t b : List ℕ} → Spans P t → Phases P ph t b → ph ≢ 2 → (g : ℕ) → isUnswept t g ≡ false
@@ -109,15 +109,15 @@ kept-allocated {P} {t} {b} C w = go (unsweptAt t w)
     go false a = a
 
 -- a reference that is not nil names a kept element, and so a word of the arena
-pub named : {P : ℕ} {t b : List ℕ} → Bits P t b → (v : ℕ) → v ≢ 0 → Reference P t b v → T (bit P allocated b (wordOf v)) × T (keptAt P t b (wordOf v)) × (wordOf v < 1024 * P)
+pub named : {P : ℕ} {t b : List ℕ} → Bits P t b → (v : ℕ) → v ≢ 0 → Reference P t b v → T (bit P allocated b (wordOf v)) × T (keptAt P t b (wordOf v)) × (wordOf v < pageWords * P)
 named C v d (inl e) = absurd (d e)
 named {P} {t} {b} C v d (inr f) =
     let a = kept-allocated C (wordOf v) (f .1) in
-    (a, f .1, bit-inside (1024 * P) allocated b (wordOf v) a)
+    (a, f .1, bit-inside (pageWords * P) allocated b (wordOf v) a)
 
 -- nil, or the address of a word of the arena
 abbrev pub There : ℕ → ℕ → Type 0
-There P v = v ≢ 0 → wordOf v < 1024 * P
+There P v = v ≢ 0 → wordOf v < pageWords * P
 
 pub reference-there : {P : ℕ} {t b : List ℕ} → Bits P t b → (v : ℕ) → Reference P t b v → There P v
 reference-there C v r d = named C v d r .2

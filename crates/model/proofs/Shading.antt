@@ -9,7 +9,7 @@ use lib.ListN.{length}
 use lib.Dec.{eqb}
 use borrow.Author.Tests.{eqb-true, eqb-false}
 use Rattle.model.specs.Bounded.{foldBelow}
-use Rattle.model.specs.Memory.{wordOf}
+use Rattle.model.specs.Memory.{wordOf, pageWords}
 use Rattle.model.specs.Bitmaps.{Part, marked, gray, putBit}
 use Rattle.model.specs.Spans.{isScan, spanOf}
 use Rattle.model.specs.Shading.{shade, shadeAll}
@@ -28,28 +28,28 @@ or-known f u w e = go (eqb w u) refl
     go false p = or-false (f w)
 
 -- one value
-module _ (P : ℕ) (t : List ℕ) (v : ℕ) (b : List ℕ) (there : There P v) (f : Four (1024 * P) b) where
+module _ (P : ℕ) (t : List ℕ) (v : ℕ) (b : List ℕ) (there : There P v) (f : Four (pageWords * P) b) where
   -- the bitmaps by the three tests: nil, marked, scan
   abbrev chosen : Bool → Bool → Bool → List ℕ
   chosen z m s =
-      cond (not z && not m) (cond s (putBit (1024 * P) gray (wordOf v) true (putBit (1024 * P) marked (wordOf v) true b)) (putBit (1024 * P) marked (wordOf v) true b)) b
+      cond (not z && not m) (cond s (putBit (pageWords * P) gray (wordOf v) true (putBit (pageWords * P) marked (wordOf v) true b)) (putBit (pageWords * P) marked (wordOf v) true b)) b
 
   is-chosen : shade P t v b ≡ chosen (eqb v 0) (bit P marked b (wordOf v)) (isScan t (spanOf t (wordOf v)))
   unfolding shade
   is-chosen = refl
 
-  f₁ : Four (1024 * P) (putBit (1024 * P) marked (wordOf v) true b)
-  f₁ = rw (part-length (1024 * P) marked (wordOf v) true b) f
+  f₁ : Four (pageWords * P) (putBit (pageWords * P) marked (wordOf v) true b)
+  f₁ = rw (part-length (pageWords * P) marked (wordOf v) true b) f
 
   -- a white record's bits
-  white : eqb v 0 ≡ false → (q : Part) (w : ℕ) → bit P q (putBit (1024 * P) gray (wordOf v) true (putBit (1024 * P) marked (wordOf v) true b)) w ≡
+  white : eqb v 0 ≡ false → (q : Part) (w : ℕ) → bit P q (putBit (pageWords * P) gray (wordOf v) true (putBit (pageWords * P) marked (wordOf v) true b)) w ≡
       cond (samePart q gray && eqb w (wordOf v)) true (cond (samePart q marked && eqb w (wordOf v)) true (bit P q b w))
   white e q w =
       let h = there (eqb-false v 0 e) in
-      rw (part-at (1024 * P) q gray (wordOf v) true (putBit (1024 * P) marked (wordOf v) true b) h f₁ w, part-at (1024 * P) q marked (wordOf v) true b h f w)
+      rw (part-at (pageWords * P) q gray (wordOf v) true (putBit (pageWords * P) marked (wordOf v) true b) h f₁ w, part-at (pageWords * P) q marked (wordOf v) true b h f w)
 
-  black : eqb v 0 ≡ false → (q : Part) (w : ℕ) → bit P q (putBit (1024 * P) marked (wordOf v) true b) w ≡ cond (samePart q marked && eqb w (wordOf v)) true (bit P q b w)
-  black e q w = part-at (1024 * P) q marked (wordOf v) true b (there (eqb-false v 0 e)) f w
+  black : eqb v 0 ≡ false → (q : Part) (w : ℕ) → bit P q (putBit (pageWords * P) marked (wordOf v) true b) w ≡ cond (samePart q marked && eqb w (wordOf v)) true (bit P q b w)
+  black e q w = part-at (pageWords * P) q marked (wordOf v) true b (there (eqb-false v 0 e)) f w
 
   pub shade-length : length (shade P t v b) ≡ length b
   shade-length = rw is-chosen (go (eqb v 0) (bit P marked b (wordOf v)) (isScan t (spanOf t (wordOf v))))
@@ -94,7 +94,7 @@ module _ (P : ℕ) (t : List ℕ) (v : ℕ) (b : List ℕ) (there : There P v) (
       go false e false false = rw (black e q w, x)
 
 -- many values
-module _ (P : ℕ) (t : List ℕ) (value : ℕ → ℕ) (b : List ℕ) (f : Four (1024 * P) b) where
+module _ (P : ℕ) (t : List ℕ) (value : ℕ → ℕ) (b : List ℕ) (f : Four (pageWords * P) b) where
   pub all-length : (n : ℕ) → ((k : ℕ) → k < n → There P (value k)) → length (shadeAll P t n value b) ≡ length b
   unfolding shadeAll foldBelow
   all-length zero h = refl
@@ -102,7 +102,7 @@ module _ (P : ℕ) (t : List ℕ) (value : ℕ → ℕ) (b : List ℕ) (f : Four
       let e = all-length n (λ k l. h k (omega arith)) in
       shade-length P t (value n) (foldBelow n (λ k. shade P t (value k)) b) (h n (omega arith)) (rw e f) ∙ e
 
-  pub all-four : (n : ℕ) → ((k : ℕ) → k < n → There P (value k)) → Four (1024 * P) (shadeAll P t n value b)
+  pub all-four : (n : ℕ) → ((k : ℕ) → k < n → There P (value k)) → Four (pageWords * P) (shadeAll P t n value b)
   all-four n h = rw (all-length n h) f
 
   pub all-other : (n : ℕ) → ((k : ℕ) → k < n → There P (value k)) → (q : Part) → samePart q marked ≡ false → samePart q gray ≡ false → (w : ℕ) →

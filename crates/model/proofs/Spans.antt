@@ -10,8 +10,9 @@ use native.Mathlib.Nat.{mul-le-mul-right, suc-mul, div-add-mod', mod-lt}
 use lib.Arith.{digits-div}
 use lib.Dec.{eqb, ltb}
 use borrow.Author.Tests.{ltb-true, ltb-false, eqb-true, eqb-false}
-use Rattle.model.specs.Classes.{classPages}
-use Rattle.model.specs.Spans.{owner, pageCount, kindEntry, elementWords, elements, elementStart, elementNumber, spanOf, elementOf}
+use Rattle.model.specs.Memory.{pageWords}
+use Rattle.model.specs.Classes.{classPages, kinds, fewestLarge, mostLarge}
+use Rattle.model.specs.Spans.{owner, pageCount, kindEntry, elementWords, elements, elementStart, elementNumber, spanOf, elementOf, unsweptFlag}
 use Rattle.model.proofs.Classes.{Fits, small-fits, large-fits}
 
 -- the first word of the element, of the span at page s, that word v lies in
@@ -22,7 +23,7 @@ startIn t s v = elementStart t s (elementNumber t s v)
 pub number-is : (t : List ℕ) (s k v : ℕ) → elementStart t s k ≤ v → v < elementStart t s k + elementWords t s → elementNumber t s v ≡ k
 unfolding elementNumber
 number-is t s k v a b =
-    let e : v - 1024 * s ≡ k * elementWords t s + (v - elementStart t s k) = omega arith in
+    let e : v - pageWords * s ≡ k * elementWords t s + (v - elementStart t s k) = omega arith in
     rw e (digits-div k {m = elementWords t s} {r = v - elementStart t s k} (omega arith))
 
 pub start-is : (t : List ℕ) (s k v : ℕ) → elementStart t s k ≤ v → v < elementStart t s k + elementWords t s → startIn t s v ≡ elementStart t s k
@@ -35,11 +36,11 @@ pub number-same : (t : List ℕ) (s w v : ℕ) → startIn t s w ≡ w → w ≤
 number-same t s w v e a b = number-is t s (elementNumber t s w) v (omega arith) (omega arith)
 
 -- .. and it lies around the word
-pub start-range : (t : List ℕ) (s v : ℕ) → 1024 * s ≤ v → 0 < elementWords t s → (1024 * s ≤ startIn t s v) × (startIn t s v ≤ v) × (v < startIn t s v + elementWords t s)
+pub start-range : (t : List ℕ) (s v : ℕ) → pageWords * s ≤ v → 0 < elementWords t s → (pageWords * s ≤ startIn t s v) × (startIn t s v ≤ v) × (v < startIn t s v + elementWords t s)
 unfolding elementNumber
 start-range t s v h l =
-    let d = div-add-mod' (v - 1024 * s) (elementWords t s) in
-    let m = mod-lt (v - 1024 * s) l in
+    let d = div-add-mod' (v - pageWords * s) (elementWords t s) in
+    let m = mod-lt (v - pageWords * s) l in
     (omega arith, omega arith, omega arith)
 
 -- elements do not overlap
@@ -72,10 +73,10 @@ IsSpan t s = owner t s ≡ s + 1
 
 -- the entry of a span's first page: one of the 134 kinds, at most with the unswept flag, and the class's page count
 pub record GoodEntry (entry count : ℕ) : Type 0 where
-  pub flag : entry < 512
-  pub kind : entry % 256 < 134
-  pub large : entry % 256 / 2 ≡ 0 → (5 ≤ count) × (count ≤ 128)
-  pub small : entry % 256 / 2 ≢ 0 → count ≡ classPages (entry % 256 / 2)
+  pub flag : entry < unsweptFlag + unsweptFlag
+  pub kind : entry % unsweptFlag < kinds
+  pub large : entry % unsweptFlag / 2 ≡ 0 → (fewestLarge ≤ count) × (count ≤ mostLarge)
+  pub small : entry % unsweptFlag / 2 ≢ 0 → count ≡ classPages (entry % unsweptFlag / 2)
 
 pub record Spans (P : ℕ) (t : List ℕ) : Type 0 where
   -- a page that is not free lies in the span that it names
@@ -87,16 +88,16 @@ pub record Spans (P : ℕ) (t : List ℕ) : Type 0 where
   pub entry : (s : ℕ) → IsSpan t s → GoodEntry (kindEntry t s) (pageCount t s)
 
 -- the elements of a span fit into it
-pub entry-fits : (kind count : ℕ) → GoodEntry kind count → Fits (kind % 256 / 2) count
-entry-fits kind count G = go (eqb (kind % 256 / 2) 0) refl
+pub entry-fits : (kind count : ℕ) → GoodEntry kind count → Fits (kind % unsweptFlag / 2) count
+entry-fits kind count G = go (eqb (kind % unsweptFlag / 2) 0) refl
   where
-    go : (b : Bool) → eqb (kind % 256 / 2) 0 ≡ b → Fits (kind % 256 / 2) count
-    go true e = let z = eqb-true (kind % 256 / 2) 0 e in let l = G .large z in rw z (large-fits count (omega arith) (omega arith))
-    go false e = let z = eqb-false (kind % 256 / 2) 0 e in rw (G .small z) (small-fits (kind % 256 / 2) z (omega (arith, G .kind)))
+    go : (b : Bool) → eqb (kind % unsweptFlag / 2) 0 ≡ b → Fits (kind % unsweptFlag / 2) count
+    go true e = let z = eqb-true (kind % unsweptFlag / 2) 0 e in let l = G .large z in rw z (large-fits count (omega arith) (omega arith))
+    go false e = let z = eqb-false (kind % unsweptFlag / 2) 0 e in rw (G .small z) (small-fits (kind % unsweptFlag / 2) z (omega (arith, G .kind)))
 
 -- word w lies in an element: not on a free page, not in the tail of a span
 pub record InElement (t : List ℕ) (w : ℕ) : Type 0 where
-  pub used : 0 < owner t (w / 1024)
+  pub used : 0 < owner t (w / pageWords)
   pub number : elementNumber t (spanOf t w) w < elements t (spanOf t w)
 
 -- .. and is its first word
@@ -105,18 +106,18 @@ pub record Element (t : List ℕ) (w : ℕ) : Type 0 where
   pub first : elementOf t w ≡ w
 
 module _ {P : ℕ} {t : List ℕ} (F : Spans P t) where
-  pub fits : (s : ℕ) → IsSpan t s → Fits (kindEntry t s % 256 / 2) (pageCount t s)
+  pub fits : (s : ℕ) → IsSpan t s → Fits (kindEntry t s % unsweptFlag / 2) (pageCount t s)
   fits s e = entry-fits (kindEntry t s) (pageCount t s) (F .entry s e)
 
-  pub span-of : (w : ℕ) → 0 < owner t (w / 1024) → IsSpan t (spanOf t w)
-  span-of w h = F .whose (w / 1024) h .0
+  pub span-of : (w : ℕ) → 0 < owner t (w / pageWords) → IsSpan t (spanOf t w)
+  span-of w h = F .whose (w / pageWords) h .0
 
-  pub in-span : (w : ℕ) → 0 < owner t (w / 1024) → (1024 * spanOf t w ≤ w) × (w < 1024 * (spanOf t w + pageCount t (spanOf t w)))
-  in-span w h = let f = F .whose (w / 1024) h in (omega arith, omega arith)
+  pub in-span : (w : ℕ) → 0 < owner t (w / pageWords) → (pageWords * spanOf t w ≤ w) × (w < pageWords * (spanOf t w + pageCount t (spanOf t w)))
+  in-span w h = let f = F .whose (w / pageWords) h in (omega arith, omega arith)
 
   -- a word between the ends of a span lies in it
-  pub at-home : (s w : ℕ) → IsSpan t s → 1024 * s ≤ w → w < 1024 * (s + pageCount t s) → (owner t (w / 1024) ≡ s + 1) × (spanOf t w ≡ s)
-  at-home s w i h k = let e : owner t (w / 1024) ≡ s + 1 = F .body s (w / 1024) i (omega arith) (omega arith) in (e, omega arith)
+  pub at-home : (s w : ℕ) → IsSpan t s → pageWords * s ≤ w → w < pageWords * (s + pageCount t s) → (owner t (w / pageWords) ≡ s + 1) × (spanOf t w ≡ s)
+  at-home s w i h k = let e : owner t (w / pageWords) ≡ s + 1 = F .body s (w / pageWords) i (omega arith) (omega arith) in (e, omega arith)
 
   pub spans-apart : (s r : ℕ) → IsSpan t s → IsSpan t r → s ≢ r → (s + pageCount t s ≤ r) ⊎ (r + pageCount t r ≤ s)
   spans-apart s r i j d = go (ltb s r) refl (ltb r (s + pageCount t s)) refl (ltb s (r + pageCount t r)) refl
@@ -128,12 +129,12 @@ module _ {P : ℕ} {t : List ℕ} (F : Spans P t) where
       go false e b f false g = inr (ltb-false s (r + pageCount t r) g)
 
   -- element k lies in its span
-  pub element-fits : (s k : ℕ) → IsSpan t s → k < elements t s → elementStart t s k + elementWords t s ≤ 1024 * (s + pageCount t s)
+  pub element-fits : (s k : ℕ) → IsSpan t s → k < elements t s → elementStart t s k + elementWords t s ≤ pageWords * (s + pageCount t s)
   element-fits s k e l = omega (arith, product-fits k (elements t s) (elementWords t s) l, fits s e .inside)
 
   -- the words of element k: their span, their element
   pub element-word : (s k v : ℕ) → IsSpan t s → k < elements t s → elementStart t s k ≤ v → v < elementStart t s k + elementWords t s →
-      (owner t (v / 1024) ≡ s + 1) × (spanOf t v ≡ s) × (elementNumber t (spanOf t v) v ≡ k) × (elementOf t v ≡ elementStart t s k)
+      (owner t (v / pageWords) ≡ s + 1) × (spanOf t v ≡ s) × (elementNumber t (spanOf t v) v ≡ k) × (elementOf t v ≡ elementStart t s k)
   element-word s k v e l a b =
       let h = at-home s v e (omega arith) (omega (arith, element-fits s k e l)) in
       let n : elementNumber t (spanOf t v) v ≡ k = rw (h .1) (number-is t s k v a b) in
@@ -145,7 +146,7 @@ module _ {P : ℕ} {t : List ℕ} (F : Spans P t) where
       record { lies = record { used = omega (arith, h .0); number = rw (h .2, h .1) l }; first = h .3 }
 
   -- an element that starts at word w lies in its span, and so in the arena
-  pub whole : (w : ℕ) → Element t w → (w + elementWords t (spanOf t w) ≤ 1024 * (spanOf t w + pageCount t (spanOf t w))) × (w + elementWords t (spanOf t w) ≤ 1024 * P) × (0 < elementWords t (spanOf t w))
+  pub whole : (w : ℕ) → Element t w → (w + elementWords t (spanOf t w) ≤ pageWords * (spanOf t w + pageCount t (spanOf t w))) × (w + elementWords t (spanOf t w) ≤ pageWords * P) × (0 < elementWords t (spanOf t w))
   whole w E =
       let e = span-of w (E .lies .used) in
       let l = element-fits (spanOf t w) (elementNumber t (spanOf t w) w) e (E .lies .number) in
@@ -161,5 +162,5 @@ module _ {P : ℕ} {t : List ℕ} (F : Spans P t) where
       (h .3 ∙ e, h .1, record { used = omega (arith, h .0); number = rw (h .2, h .1) (E .lies .number) })
 
   -- the element that a word of a span lies in, around it
-  pub round : (v : ℕ) → 0 < owner t (v / 1024) → (1024 * spanOf t v ≤ elementOf t v) × (elementOf t v ≤ v) × (v < elementOf t v + elementWords t (spanOf t v))
+  pub round : (v : ℕ) → 0 < owner t (v / pageWords) → (pageWords * spanOf t v ≤ elementOf t v) × (elementOf t v ≤ v) × (v < elementOf t v + elementWords t (spanOf t v))
   round v u = start-range t (spanOf t v) v (in-span v u .0) (fits (spanOf t v) (span-of v u) .words)

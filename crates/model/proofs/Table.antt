@@ -8,50 +8,51 @@ use native.Mathlib.Omega.{arith}
 use lib.ListN.{getD, set, length, length-set}
 use lib.Dec.{eqb}
 use borrow.Author.Tests.{eq-eqb, ne-eqb, eqb-true, eqb-false}
+use Rattle.model.specs.Memory.{entryNumbers}
 use Rattle.model.specs.Spans.{owner, pageCount, kindEntry, Entry, putPage, putPages}
 use Rattle.model.proofs.Bounded.{within, run-ok, run-read}
 use Rattle.model.proofs.Words.{set-at}
 
 -- a table of P pages
 abbrev pub Tabled : ℕ → List ℕ → Type 0
-Tabled P t = length t ≡ 3 * P
+Tabled P t = length t ≡ entryNumbers * P
 
 pub page-length : (P g : ℕ) (e : Entry) (t : List ℕ) → g < P → Tabled P t → Tabled P (putPage g e t)
 unfolding putPage
 page-length P g e t h k = simp length-set k
 
 -- two numbers of a table are in one column, c of it, only in one entry
-column : (c x g : ℕ) → eqb (3 * x + c) (3 * g + c) ≡ eqb x g
+column : (c x g : ℕ) → eqb (entryNumbers * x + c) (entryNumbers * g + c) ≡ eqb x g
 column c x g = go (eqb x g) refl
   where
-    go : (b : Bool) → eqb x g ≡ b → eqb (3 * x + c) (3 * g + c) ≡ b
-    go true e = eq-eqb (3 * x + c) (3 * g + c) (omega (arith, eqb-true x g e))
-    go false e = ne-eqb (3 * x + c) (3 * g + c) (λ z. eqb-false x g e (omega arith))
+    go : (b : Bool) → eqb x g ≡ b → eqb (entryNumbers * x + c) (entryNumbers * g + c) ≡ b
+    go true e = eq-eqb (entryNumbers * x + c) (entryNumbers * g + c) (omega (arith, eqb-true x g e))
+    go false e = ne-eqb (entryNumbers * x + c) (entryNumbers * g + c) (λ z. eqb-false x g e (omega arith))
 
-first-column : (x g : ℕ) → eqb (3 * x) (3 * g) ≡ eqb x g
-first-column x g = ap (λ y. eqb y (3 * g)) (sym (add-zero (3 * x))) ∙ ap (eqb (3 * x + 0)) (sym (add-zero (3 * g))) ∙ column 0 x g
+first-column : (x g : ℕ) → eqb (entryNumbers * x) (entryNumbers * g) ≡ eqb x g
+first-column x g = ap (λ y. eqb y (entryNumbers * g)) (sym (add-zero (entryNumbers * x))) ∙ ap (eqb (entryNumbers * x + 0)) (sym (add-zero (entryNumbers * g))) ∙ column 0 x g
 
 -- number i of a table after page g's entry was written
 three : (t : List ℕ) (P g : ℕ) (e : Entry) → g < P → Tabled P t → (i : ℕ) → getD (putPage g e t) i 0 ≡
-    cond (eqb i (3 * g + 2)) (e .kind) (cond (eqb i (3 * g + 1)) (e .count) (cond (eqb i (3 * g)) (e .owner) (getD t i 0)))
+    cond (eqb i (entryNumbers * g + 2)) (e .kind) (cond (eqb i (entryNumbers * g + 1)) (e .count) (cond (eqb i (entryNumbers * g)) (e .owner) (getD t i 0)))
 unfolding putPage
 three t P g e h k i = rw (
-  set-at (set (set t (3 * g) (e .owner)) (3 * g + 1) (e .count)) (3 * g + 2) (e .kind) (simp length-set (omega arith)) i,
-  set-at (set t (3 * g) (e .owner)) (3 * g + 1) (e .count) (simp length-set (omega arith)) i,
-  set-at t (3 * g) (e .owner) (omega arith) i,
+  set-at (set (set t (entryNumbers * g) (e .owner)) (entryNumbers * g + 1) (e .count)) (entryNumbers * g + 2) (e .kind) (simp length-set (omega arith)) i,
+  set-at (set t (entryNumbers * g) (e .owner)) (entryNumbers * g + 1) (e .count) (simp length-set (omega arith)) i,
+  set-at t (entryNumbers * g) (e .owner) (omega arith) i,
 )
 
 pub owner-put : (P g : ℕ) (e : Entry) (t : List ℕ) → g < P → Tabled P t → (x : ℕ) → owner (putPage g e t) x ≡ cond (true && eqb x g) (e .owner) (owner t x)
 unfolding owner
-owner-put P g e t h k x = rw (three t P g e h k (3 * x), ne-eqb (3 * x) (3 * g + 2) (omega arith), ne-eqb (3 * x) (3 * g + 1) (omega arith), first-column x g)
+owner-put P g e t h k x = rw (three t P g e h k (entryNumbers * x), ne-eqb (entryNumbers * x) (entryNumbers * g + 2) (omega arith), ne-eqb (entryNumbers * x) (entryNumbers * g + 1) (omega arith), first-column x g)
 
 pub count-put : (P g : ℕ) (e : Entry) (t : List ℕ) → g < P → Tabled P t → (x : ℕ) → pageCount (putPage g e t) x ≡ cond (true && eqb x g) (e .count) (pageCount t x)
 unfolding pageCount
-count-put P g e t h k x = rw (three t P g e h k (3 * x + 1), ne-eqb (3 * x + 1) (3 * g + 2) (omega arith), column 1 x g, ne-eqb (3 * x + 1) (3 * g) (omega arith))
+count-put P g e t h k x = rw (three t P g e h k (entryNumbers * x + 1), ne-eqb (entryNumbers * x + 1) (entryNumbers * g + 2) (omega arith), column 1 x g, ne-eqb (entryNumbers * x + 1) (entryNumbers * g) (omega arith))
 
 pub kind-put : (P g : ℕ) (e : Entry) (t : List ℕ) → g < P → Tabled P t → (x : ℕ) → kindEntry (putPage g e t) x ≡ cond (true && eqb x g) (e .kind) (kindEntry t x)
 unfolding kindEntry
-kind-put P g e t h k x = rw (three t P g e h k (3 * x + 2), column 2 x g, ne-eqb (3 * x + 2) (3 * g + 1) (omega arith), ne-eqb (3 * x + 2) (3 * g) (omega arith))
+kind-put P g e t h k x = rw (three t P g e h k (entryNumbers * x + 2), column 2 x g, ne-eqb (entryNumbers * x + 2) (entryNumbers * g + 1) (omega arith), ne-eqb (entryNumbers * x + 2) (entryNumbers * g) (omega arith))
 
 -- .. and after a run of entries
 module _ (P s n : ℕ) (g : ℕ → Entry) (t : List ℕ) (h : s + n ≤ P) (k : Tabled P t) where

@@ -10,10 +10,10 @@ use native.Mathlib.Omega.{arith}
 use lib.ListN.{getD}
 use lib.Dec.{T, eqb}
 use borrow.Author.Tests.{eqb-true, eqb-false, eq-eqb, ne-eqb, lt-leb}
-use Rattle.model.specs.Memory.{Heap, putWords, phase, state, slot, wordOf}
+use Rattle.model.specs.Memory.{Heap, putWords, phase, state, slot, wordOf, slotCount, pageWords}
 use Rattle.model.specs.Classes.{classOf, kindOf, pagesFor, elementWordsOf}
 use Rattle.model.specs.Bitmaps.{allocated, marked, pointer, is}
-use Rattle.model.specs.Spans.{putPage, owner, pageCount, kindEntry, isUnswept, elementStart, elementNumber, spanPage}
+use Rattle.model.specs.Spans.{putPage, owner, pageCount, kindEntry, isUnswept, elementStart, elementNumber, spanPage, unsweptFlag}
 use Rattle.model.specs.Shading.{shade, shadeAll, barrier}
 use Rattle.model.specs.Checks.{phaseRefusal, openRefusal}
 use Rattle.model.specs.Answers.{_orElse_}
@@ -30,10 +30,10 @@ use Rattle.model.proofs.Facts.{Sized, bit, four, There}
 use Rattle.model.proofs.Shading.{shade-length, shade-marked, all-four, all-suc}
 
 -- a shaded record is marked, and a marked one stays so
-pub shade-marks : (P : ℕ) (t : List ℕ) (v : ℕ) (b : List ℕ) → There P v → Four (1024 * P) b → v ≢ 0 → T (bit P marked (shade P t v b) (wordOf v))
+pub shade-marks : (P : ℕ) (t : List ℕ) (v : ℕ) (b : List ℕ) → There P v → Four (pageWords * P) b → v ≢ 0 → T (bit P marked (shade P t v b) (wordOf v))
 shade-marks P t v b h f d = rw (shade-marked P t v b h f (wordOf v), ne-eqb v 0 d, eq-eqb (wordOf v) (wordOf v) refl) (is-true _ (or-true (bit P marked b (wordOf v))))
 
-pub shade-keeps : (P : ℕ) (t : List ℕ) (v : ℕ) (b : List ℕ) → There P v → Four (1024 * P) b → (w : ℕ) → T (bit P marked b w) → T (bit P marked (shade P t v b) w)
+pub shade-keeps : (P : ℕ) (t : List ℕ) (v : ℕ) (b : List ℕ) → There P v → Four (pageWords * P) b → (w : ℕ) → T (bit P marked b w) → T (bit P marked (shade P t v b) w)
 shade-keeps P t v b h f w m = rw (shade-marked P t v b h f w) (go (eqb v 0))
   where
     go : (z : Bool) → T (cond z (bit P marked b w) (bit P marked b w || eqb w (wordOf v)))
@@ -41,12 +41,12 @@ shade-keeps P t v b h f w m = rw (shade-marked P t v b h f w) (go (eqb v 0))
     go false = or-iff (bit P marked b w) (eqb w (wordOf v)) .1 (mathlib.Core.Logic.inl m)
 
 -- .. of many
-pub all-marks : (P : ℕ) (t : List ℕ) (value : ℕ → ℕ) (b : List ℕ) → Four (1024 * P) b → (n : ℕ) → ((k : ℕ) → k < n → There P (value k)) →
+pub all-marks : (P : ℕ) (t : List ℕ) (value : ℕ → ℕ) (b : List ℕ) → Four (pageWords * P) b → (n : ℕ) → ((k : ℕ) → k < n → There P (value k)) →
     (k : ℕ) → k < n → value k ≢ 0 → T (bit P marked (shadeAll P t n value b) (wordOf (value k)))
 all-marks P t value b f zero h k l d = absurd (omega arith)
 all-marks P t value b f (suc n) h k l d = rw (all-suc P t n value b) (go (eqb k n) refl (λ m. all-marks P t value b f n (λ j q. h j (omega arith)) k m d))
   where
-    four′ : Four (1024 * P) (shadeAll P t n value b)
+    four′ : Four (pageWords * P) (shadeAll P t n value b)
     four′ = all-four P t value b f n (λ j q. h j (omega arith))
 
     go : (c : Bool) → eqb k n ≡ c → (k < n → T (bit P marked (shadeAll P t n value b) (wordOf (value k)))) →
@@ -57,7 +57,7 @@ all-marks P t value b f (suc n) h k l d = rw (all-suc P t n value b) (go (eqb k 
 module _ (h : Heap) (Z : Sized h) where
   -- in the mark phase a store marks what the word held, and what it gets
   module _ (one : phase h ≡ 1) (old new : ℕ) (ho : There (h .pages) old) (hn : There (h .pages) new) where
-    first : Four (1024 * h .pages) (shade (h .pages) (h .table) old (h .bits))
+    first : Four (pageWords * h .pages) (shade (h .pages) (h .table) old (h .bits))
     first = rw (shade-length (h .pages) (h .table) old (h .bits) ho (four h Z)) (four h Z)
 
     pub barrier-old : old ≢ 0 → T (bit (h .pages) marked (barrier h old new) (wordOf old))
@@ -69,36 +69,36 @@ module _ (h : Heap) (Z : Sized h) where
     barrier-new d = rw (barrier-is h old new, one) (shade-marks (h .pages) (h .table) new (shade (h .pages) (h .table) old (h .bits)) hn first d)
 
   -- a record born in the mark phase is marked
-  pub born-marked : phase h ≡ 1 → (w p : ℕ) → w < 1024 * h .pages → w + p ≤ 1024 * h .pages → T (bit (h .pages) marked (newBits h w p) w)
+  pub born-marked : phase h ≡ 1 → (w p : ℕ) → w < pageWords * h .pages → w + p ≤ pageWords * h .pages → T (bit (h .pages) marked (newBits h w p) w)
   born-marked one w p l k = rw (new-at h w p Z l k marked w, one, eq-eqb w w refl) tt
 
   -- the span that an allocation takes an element of is swept
-  pub room-swept : (kind s : ℕ) → kind < 256 → T (hasRoom h kind s) → isUnswept (h .table) s ≡ false
-  room-swept kind s l ok = lt-leb 256 (kindEntry (h .table) s) (omega (arith, room-is h kind s ok .1))
+  pub room-swept : (kind s : ℕ) → kind < unsweptFlag → T (hasRoom h kind s) → isUnswept (h .table) s ≡ false
+  room-swept kind s l ok = lt-leb unsweptFlag (kindEntry (h .table) s) (omega (arith, room-is h kind s ok .1))
 
   -- the words of a new record are 0
   pub born-zero : (s i size p : ℕ) → allocateRefusal h s i size p ≡ 0 →
       let w = newWord h (kindOf size p) (pagesFor size) in let n = elementWordsOf (classOf size) (pagesFor size) in
-      w + n ≤ 1024 * h .pages → (v : ℕ) → w ≤ v → v < w + n → getD (allocate h s i size p .heap .arena) v 0 ≡ 0
+      w + n ≤ pageWords * h .pages → (v : ℕ) → w ≤ v → v < w + n → getD (allocate h s i size p .heap .arena) v 0 ≡ 0
   born-zero s i size p e l v a b = rw (allocate-is h s i size p, e)
       (zeroed (newWord h (kindOf size p) (pagesFor size)) (elementWordsOf (classOf size) (pagesFor size)) l v a b)
     where
-      zeroed : (w n : ℕ) → w + n ≤ 1024 * h .pages → (v : ℕ) → w ≤ v → v < w + n → getD (putWords w n (λ x. 0) (h .arena)) v 0 ≡ 0
-      zeroed w n l v a b = rw (words-at (1024 * h .pages) w n (λ x. 0) (h .arena) l (Z .arena) v, within-yes w n v a b)
+      zeroed : (w n : ℕ) → w + n ≤ pageWords * h .pages → (v : ℕ) → w ≤ v → v < w + n → getD (putWords w n (λ x. 0) (h .arena)) v 0 ≡ 0
+      zeroed w n l v a b = rw (words-at (pageWords * h .pages) w n (λ x. 0) (h .arena) l (Z .arena) v, within-yes w n v a b)
 
   -- a start marks nothing
   pub start-bits : start h .heap .bits ≡ h .bits
   start-bits = rw (start-is h) (cond-same (eqb (phaseRefusal h 0) 0) (h .bits))
 
   -- a scan of a gray stack marks what each of its 32 slots names
-  pub scan-slots : (s : ℕ) → (phaseRefusal h 1 orElse openRefusal h s) ≡ 0 → state h s ≡ 2 → ((i : ℕ) → i < 32 → There (h .pages) (slot h s i)) →
-      (i : ℕ) → i < 32 → slot h s i ≢ 0 → T (bit (h .pages) marked (scanStack h s .heap .bits) (wordOf (slot h s i)))
-  scan-slots s e two th i l d = rw (scan-stack-is h s, e, eq-eqb (state h s) 2 two) (all-marks (h .pages) (h .table) (slot h s) (h .bits) (four h Z) 32 th i l d)
+  pub scan-slots : (s : ℕ) → (phaseRefusal h 1 orElse openRefusal h s) ≡ 0 → state h s ≡ 2 → ((i : ℕ) → i < slotCount → There (h .pages) (slot h s i)) →
+      (i : ℕ) → i < slotCount → slot h s i ≢ 0 → T (bit (h .pages) marked (scanStack h s .heap .bits) (wordOf (slot h s i)))
+  scan-slots s e two th i l d = rw (scan-stack-is h s, e, eq-eqb (state h s) 2 two) (all-marks (h .pages) (h .table) (slot h s) (h .bits) (four h Z) slotCount th i l d)
 
   -- a sweep step leaves allocated what is marked, and a pointer bit where its element is
-  module _ (s : ℕ) (l : s + pageCount (h .table) s ≤ h .pages) (v : ℕ) (a : 1024 * s ≤ v) (b : v < 1024 * (s + pageCount (h .table) s)) where
-    here : within (1024 * s) (1024 * pageCount (h .table) s) v ≡ true
-    here = within-yes (1024 * s) (1024 * pageCount (h .table) s) v a (omega arith)
+  module _ (s : ℕ) (l : s + pageCount (h .table) s ≤ h .pages) (v : ℕ) (a : pageWords * s ≤ v) (b : v < pageWords * (s + pageCount (h .table) s)) where
+    here : within (pageWords * s) (pageWords * pageCount (h .table) s) v ≡ true
+    here = within-yes (pageWords * s) (pageWords * pageCount (h .table) s) v a (omega arith)
 
     pub swept-pointer : bit (h .pages) pointer (sweptBits h s) v ≡ (is pointer h v && is marked h (elementStart (h .table) s (elementNumber (h .table) s v)))
     swept-pointer = rw (swept-at h Z s l pointer v, here)
@@ -114,5 +114,5 @@ module _ (h : Heap) (Z : Sized h) where
       go true p = rw (eqb-true x s p) (sym i)
       go false p = refl
 
-      again : owner (putPage s (spanPage s (pageCount (h .table) s) (kindEntry (h .table) s % 256) s) (h .table)) x ≡ owner (h .table) x
-      again = rw (owner-put (h .pages) s (spanPage s (pageCount (h .table) s) (kindEntry (h .table) s % 256) s) (h .table) l (Z .table) x) (go (eqb x s) refl)
+      again : owner (putPage s (spanPage s (pageCount (h .table) s) (kindEntry (h .table) s % unsweptFlag) s) (h .table)) x ≡ owner (h .table) x
+      again = rw (owner-put (h .pages) s (spanPage s (pageCount (h .table) s) (kindEntry (h .table) s % unsweptFlag) s) (h .table) l (Z .table) x) (go (eqb x s) refl)
