@@ -17,7 +17,7 @@ use Rattle.model.specs.declared.Answer.the-variants.{Value}
 use Rattle.model.proofs.Classes.{takes}
 use Rattle.model.proofs.Effects.{room-words}
 use Rattle.model.proofs.Spans.{element-fits}
-use Rattle.model.proofs.Facts.{Audited}
+use Rattle.model.specs.Facts.{Audited}
 use Rattle.model.proofs.Checks.{allocate-passed}
 use Rattle.pages.proofs.Allocate.{best-fits}
 use Rattle.room.specs.Needs.{Searches, Found}

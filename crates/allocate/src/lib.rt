@@ -10,7 +10,7 @@ ghost use Rattle.model.specs.Answers.{Meets};
 ghost use Rattle.model.specs.Classes.{maxSize, classOf, kindOf, pagesFor, elementWordsOf};
 ghost use Rattle.model.specs.Spans.{putPages, spanPage};
 ghost use Rattle.model.specs.Allocate.{newBits, allocate};
-ghost use Rattle.model.proofs.Facts.{Audited};
+ghost use Rattle.model.specs.Facts.{Audited};
 ghost use Rattle.allocate.specs.Needs.{Extends, Marks, Takes, Taken};
 use model::Answer;
 use units::Word;

@@ -10,8 +10,7 @@ use borrow.Author.Tests.{eqb-false, not-true}
 use Rattle.model.specs.Memory.{Heap}
 use Rattle.model.specs.Audit.{audit}
 use Rattle.model.proofs.Tests.{is-true, same-test}
-use Rattle.model.proofs.Spans.{Spans}
-use Rattle.model.proofs.Facts.{Sized, Bits, Phases, States, Occupied, Audited}
+use Rattle.model.specs.Facts.{Spans, Sized, Bits, Phases, States, Occupied, Audited}
 use Rattle.model.proofs.Audit.{audit-facts, facts-audit}
 use Rattle.audit_pages.specs.Pages.{Pages}
 use Rattle.audit_bits.specs.Needs.{Lent}

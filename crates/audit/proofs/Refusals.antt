@@ -10,7 +10,7 @@ use Rattle.model.specs.Answers.{_given_, _orElse_}
 use Rattle.model.specs.Audit.{audit}
 use Rattle.model.specs.Calls.{entry}
 use Rattle.model.proofs.Tests.{is-true, of-true, eqb-iff}
-use Rattle.model.proofs.Facts.{Sized}
+use Rattle.model.specs.Facts.{Sized}
 use Rattle.model.proofs.Audit.{sized, sized-good}
 
 module _ (h : Heap) where

@@ -7,7 +7,7 @@ ghost use lib.Dec.{T};
 ghost use Rattle.model.specs.Memory.{lent};
 ghost use Rattle.model.specs.Audit.{audit};
 ghost use Rattle.model.specs.Calls.{entry};
-ghost use Rattle.model.proofs.Facts.{Sized};
+ghost use Rattle.model.specs.Facts.{Sized};
 use units::BAD_BUFFERS;
 use units::BITMAP_WORDS;
 use units::DAMAGED;

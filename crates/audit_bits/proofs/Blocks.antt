@@ -11,7 +11,7 @@ use Rattle.model.specs.Bounded.{_implies_, allBelow}
 use Rattle.model.specs.Bitmaps.{allocated, marked, gray, pointer}
 use Rattle.model.proofs.Tests.{and-iff, same-test, is-true}
 use Rattle.model.proofs.Bounded.{all-iff, all-from, all-at}
-use Rattle.model.proofs.Facts.{bit}
+use Rattle.model.specs.Facts.{bit}
 use Rattle.audit_blocks.specs.Block.{on, rule, pointerRule}
 use Rattle.audit_blocks.proofs.Masks.{on-and, all-cong}
 use Rattle.audit_bits.specs.Rules.{bare, keeps, blockRule}

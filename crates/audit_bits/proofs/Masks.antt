@@ -11,7 +11,7 @@ use borrow.Author.Tests.{leb-true, leb-false, lt-ltb, le-ltb}
 use Rattle.model.specs.Bounded.{allBelow}
 use Rattle.model.specs.Bitmaps.{bitOf, bitAt, Part, allocated, marked, gray, pointer, place}
 use Rattle.model.proofs.Bitmaps.{bit-none, bit-in, bit-shifted, bit-all}
-use Rattle.model.proofs.Facts.{bit}
+use Rattle.model.specs.Facts.{bit}
 use Rattle.audit_blocks.specs.Block.{on}
 use Rattle.audit_blocks.proofs.Masks.{on-or, on-not, zero-word, not-or, all-cong}
 use Rattle.audit_bits.specs.Rules.{bare}

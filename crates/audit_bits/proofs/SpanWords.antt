@@ -13,8 +13,8 @@ use Rattle.model.specs.Bitmaps.{allocated, marked, gray, pointer}
 use Rattle.model.specs.Spans.{owner, pageCount, isScan, isUnswept, spanOf, elementOf, elementNumber, elementWords, elements}
 use Rattle.model.proofs.Tests.{and-iff, or-iff, eqb-iff, ltb-iff, of-true}
 use Rattle.model.proofs.Rules.{tests}
-use Rattle.model.proofs.Spans.{Spans, IsSpan, InElement, Element, at-home, fits}
-use Rattle.model.proofs.Facts.{bit, scanAt, unsweptAt}
+use Rattle.model.specs.Facts.{Spans, IsSpan, InElement, Element, bit, scanAt, unsweptAt}
+use Rattle.model.proofs.Spans.{at-home, fits}
 use Rattle.audit_bits.specs.Rules.{bare, keeps, marksStand, spanRule}
 use Rattle.audit_bits.specs.Words.{WordBits}
 

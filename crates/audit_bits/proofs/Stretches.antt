@@ -13,8 +13,8 @@ use Rattle.model.specs.Spans.{owner, pageCount, kindEntry, spanOf, elementWords
 use Rattle.model.proofs.Tests.{is-true, of-true, clash}
 use Rattle.model.proofs.Bitmaps.{bit-in, bit-inside}
 use Rattle.model.proofs.Bounded.{all-iff, first-props}
-use Rattle.model.proofs.Spans.{Spans, IsSpan, at-home, in-span, fits}
-use Rattle.model.proofs.Facts.{bit, Bits, Phases, Occupied}
+use Rattle.model.specs.Facts.{Spans, IsSpan, bit, Bits, Phases, Occupied}
+use Rattle.model.proofs.Spans.{at-home, in-span, fits}
 use Rattle.audit_bits.specs.Needs.{Begins, Phased}
 use Rattle.audit_bits.specs.Rules.{bare, spanRule}
 use Rattle.audit_bits.specs.Words.{WordBits, GoodWords, Used, stretch}

@@ -13,7 +13,7 @@ use Rattle.model.specs.Bitmaps.{bitOf, pointer}
 use Rattle.model.proofs.Tests.{is-true, of-true}
 use Rattle.model.proofs.Bitmaps.{bit-zero}
 use Rattle.model.proofs.Bounded.{all-at, all-from, all-no, some-fails}
-use Rattle.model.proofs.Facts.{bit}
+use Rattle.model.specs.Facts.{bit}
 use Rattle.bitmap.proofs.FirstFree.{starts-from}
 use Rattle.audit_blocks.specs.Block.{on}
 use Rattle.audit_blocks.proofs.Masks.{all-cong}

@@ -6,7 +6,7 @@ use mathlib.Core.Path.{_≡_}
 use lib.ListN.{length}
 use Rattle.model.specs.Memory.{maxPages, bitmapWords, entryNumbers}
 use Rattle.model.specs.Spans.{owner, kindEntry}
-use Rattle.model.proofs.Spans.{Spans, IsSpan}
+use Rattle.model.specs.Facts.{Spans, IsSpan}
 
 -- the bitmaps of an arena of P pages
 pub record Bitmaps (P : ℕ) (b : List ℕ) : Type 0 where

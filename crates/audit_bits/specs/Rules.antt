@@ -7,7 +7,7 @@ use Rattle.model.specs.Bounded.{_==_, _<?_, _≤?_, _implies_}
 use Rattle.model.specs.Memory.{firstWord, mark, sweep}
 use Rattle.model.specs.Bitmaps.{allocated, marked, gray, pointer}
 use Rattle.model.specs.Spans.{elementWords, elements, isUnswept, isScan}
-use Rattle.model.proofs.Facts.{bit}
+use Rattle.model.specs.Facts.{bit}
 use Rattle.audit_blocks.specs.Block.{on}
 
 -- word w has no bit in any part

@@ -7,8 +7,7 @@ use mathlib.Core.Path.{_≡_}
 use lib.Dec.{T}
 use Rattle.model.specs.Bitmaps.{allocated, marked, gray, pointer}
 use Rattle.model.specs.Spans.{pageCount, spanOf, elementOf, isFree}
-use Rattle.model.proofs.Spans.{IsSpan, InElement, Element}
-use Rattle.model.proofs.Facts.{bit, scanAt, unsweptAt}
+use Rattle.model.specs.Facts.{IsSpan, InElement, Element, bit, scanAt, unsweptAt}
 
 pub record WordBits (P phase : ℕ) (t b : List ℕ) (w : ℕ) : Type 0 where
   pub element : T (bit P allocated b w) → Element t w

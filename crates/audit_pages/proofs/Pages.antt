@@ -12,7 +12,8 @@ use borrow.Author.Tests.{ltb-true, ltb-false, eqb-true, eqb-false}
 use Rattle.model.specs.Classes.{classPages}
 use Rattle.model.specs.Spans.{owner, pageCount, kindEntry}
 use Rattle.model.proofs.Tests.{eqb-iff, leb-iff}
-use Rattle.model.proofs.Spans.{IsSpan, GoodEntry, entry-fits}
+use Rattle.model.specs.Facts.{IsSpan, GoodEntry}
+use Rattle.model.proofs.Spans.{entry-fits}
 use Rattle.model.proofs.Answers.{no}
 use Rattle.audit_pages.specs.Pages.{Pages, Further, Body, First, Step}
 

@@ -4,7 +4,7 @@ use mathlib.Core.List.{List}
 use mathlib.Core.Logic.{_≢_}
 use mathlib.Core.Path.{_≡_}
 use Rattle.model.specs.Spans.{owner, pageCount, kindEntry}
-use Rattle.model.proofs.Spans.{Spans, IsSpan, GoodEntry}
+use Rattle.model.specs.Facts.{Spans, IsSpan, GoodEntry}
 
 -- the page table of p pages is as the document says, and "unswept only in phase sweep"
 pub record Pages (p ph : ℕ) (t : List ℕ) : Type 0 where

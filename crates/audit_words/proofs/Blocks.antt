@@ -16,8 +16,9 @@ use Rattle.model.specs.Spans.{pageCount, kindEntry, spanOf, elementOf, elementW
 use Rattle.model.proofs.Tests.{is-true, clash}
 use Rattle.model.proofs.Bounded.{First}
 use Rattle.model.proofs.Bitmaps.{bit-below, bit-none, bit-in, word-ext, with-bit-of}
-use Rattle.model.proofs.Spans.{IsSpan, at-home, round, whole}
-use Rattle.model.proofs.Facts.{Reference, bit, keptAt, kept-allocated}
+use Rattle.model.specs.Facts.{IsSpan, Reference, bit, keptAt}
+use Rattle.model.proofs.Spans.{at-home, round, whole}
+use Rattle.model.proofs.Facts.{kept-allocated}
 use Rattle.bitmap.proofs.Bits.{trailing-first}
 use Rattle.audit_words.specs.Contents.{Filled, Block, Blocks, SpanContents}
 

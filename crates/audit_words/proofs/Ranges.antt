@@ -8,7 +8,7 @@ use native.Mathlib.Omega.{arith}
 use lib.Dec.{ltb}
 use lib.ListN.{getD}
 use borrow.Author.Tests.{ltb-true, ltb-false}
-use Rattle.model.proofs.Facts.{Reference, States}
+use Rattle.model.specs.Facts.{Reference, States}
 use Rattle.audit_words.specs.Contents.{Range}
 
 module _ (p : ℕ) (t b r : List ℕ) where

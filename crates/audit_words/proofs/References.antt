@@ -12,8 +12,8 @@ use Rattle.model.specs.Bitmaps.{bitAt, allocated, marked, pointer}
 use Rattle.model.specs.Spans.{owner, kindEntry, isScan, spanOf}
 use Rattle.model.proofs.Tests.{eqb-iff}
 use Rattle.model.proofs.Bitmaps.{bit-in, bit-inside}
-use Rattle.model.proofs.Spans.{Spans, IsSpan}
-use Rattle.model.proofs.Facts.{Reference, bit, keptAt, unsweptAt, swept-all}
+use Rattle.model.specs.Facts.{Spans, IsSpan, Reference, bit, keptAt, unsweptAt}
+use Rattle.model.proofs.Facts.{swept-all}
 use Rattle.audit_words.specs.Contents.{Swept, keptFrom}
 
 -- the span of a word of the arena; page 0 where there is none

@@ -6,11 +6,10 @@ use mathlib.Core.Path.{_≡_}
 use lib.Dec.{T}
 use lib.ListN.{length, getD}
 use Rattle.model.specs.Bounded.{_==_, _≤?_}
-use Rattle.model.specs.Memory.{maxPages, pageWords, wordBits, entryNumbers, bitmapWords, firstWord, firstState}
+use Rattle.model.specs.Memory.{maxPages, pageWords, wordBits, entryNumbers, bitmapWords, firstWord, firstState, unsweptFlag}
 use Rattle.model.specs.Bitmaps.{pointer, bitOf}
-use Rattle.model.specs.Spans.{pageCount, kindEntry, unsweptFlag, elementOf, elementWords, spanOf}
-use Rattle.model.proofs.Spans.{Spans, IsSpan, Element}
-use Rattle.model.proofs.Facts.{Bits, Reference, bit, keptAt}
+use Rattle.model.specs.Spans.{pageCount, kindEntry, elementOf, elementWords, spanOf}
+use Rattle.model.specs.Facts.{Spans, IsSpan, Element, Bits, Reference, bit, keptAt}
 
 -- a page table of p pages whose spans are as they should be, and bitmaps of as many
 pub record Spanned (p : ℕ) (t b : List ℕ) : Type 0 where

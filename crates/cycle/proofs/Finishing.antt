@@ -16,7 +16,7 @@ use Rattle.model.specs.Cycle.{firstGray, finishRefusal, finish, unsweptPage}
 use Rattle.model.specs.declared.Answer.the-variants.{Refused, Done}
 use Rattle.model.proofs.Bounded.{all-no, all-from}
 use Rattle.model.proofs.Outcomes.{refused, accepted}
-use Rattle.model.proofs.Facts.{Audited}
+use Rattle.model.specs.Facts.{Audited}
 use Rattle.span_entries.specs.Needs.{Flaggable}
 
 -- a number passes; none does

@@ -20,7 +20,8 @@ use Rattle.model.proofs.Bounded.{first-props, first-cong}
 use Rattle.model.proofs.Bitmaps.{bit-in}
 use Rattle.model.proofs.Outcomes.{meets}
 use Rattle.model.proofs.Spans.{whole}
-use Rattle.model.proofs.Facts.{Audited, not-unswept, pointer-word}
+use Rattle.model.specs.Facts.{Audited}
+use Rattle.model.proofs.Facts.{not-unswept, pointer-word}
 use Rattle.shading.specs.Needs.{Each, ShadesAll}
 use Rattle.shading.proofs.References.{reference-named, audited-tables}
 use Rattle.spans.specs.Needs.{Entry}

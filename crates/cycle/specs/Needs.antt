@@ -6,8 +6,7 @@ use mathlib.Core.Path.{_≡_}
 use lib.ListN.{length}
 use Rattle.model.specs.Memory.{Heap, maxPages, bitmapWords, phase, mark}
 use Rattle.model.specs.Bitmaps.{is, gray}
-use Rattle.model.proofs.Facts.{Audited}
-use Rattle.model.proofs.Spans.{Spans, Element}
+use Rattle.model.specs.Facts.{Audited, Spans, Element}
 use Rattle.shading.specs.Needs.{Tables}
 
 -- bitmaps of p pages

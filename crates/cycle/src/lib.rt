@@ -11,7 +11,7 @@ ghost use Rattle.model.specs.Memory.{lent, rootWords, firstState, stackCount, g
 ghost use Rattle.model.specs.Answers.{Meets};
 ghost use Rattle.model.specs.Spans.{pointerCount};
 ghost use Rattle.model.specs.Cycle.{firstGray, scanRecord, markStep, finishRefusal, finish};
-ghost use Rattle.model.proofs.Facts.{Audited};
+ghost use Rattle.model.specs.Facts.{Audited};
 ghost use Rattle.scanning.specs.Needs.{AuditedWithout, Does};
 ghost use Rattle.cycle.specs.Needs.{Mapped, Record, Gray};
 use model::Answer;

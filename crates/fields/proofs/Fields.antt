@@ -16,7 +16,8 @@ use Rattle.model.specs.Spans.{spanOf, elementWords}
 use Rattle.model.proofs.Tests.{clash}
 use Rattle.model.proofs.Bounded.{first-props}
 use Rattle.model.proofs.Spans.{span-of, whole}
-use Rattle.model.proofs.Facts.{Audited, bit, no-pointer, named}
+use Rattle.model.specs.Facts.{Audited, bit}
+use Rattle.model.proofs.Facts.{no-pointer, named}
 use Rattle.shading.proofs.References.{audited-tables}
 use Rattle.fields.specs.Needs.{Entries, Record, Rooted}
 

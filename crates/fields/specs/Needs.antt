@@ -6,8 +6,7 @@ use lib.ListN.{length, getD}
 use Rattle.model.specs.Memory.{Heap, lent, maxPages, pageWords, entryNumbers, rootWords, stackCount, slotCount, firstState, pageOf, slotAt, recordOf}
 use Rattle.model.specs.Spans.{spanOf, classAt, pageCount}
 use Rattle.model.specs.Classes.{rows}
-use Rattle.model.proofs.Spans.{Spans, Element}
-use Rattle.model.proofs.Facts.{Bits, Reference}
+use Rattle.model.specs.Facts.{Spans, Element, Bits, Reference}
 use Rattle.shading.specs.Needs.{Tables}
 
 -- the entries of the page and of the span that word w lies in

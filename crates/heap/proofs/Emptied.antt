@@ -11,7 +11,7 @@ use Rattle.model.specs.Checks.{buffersRefusal}
 use Rattle.model.specs.Records.{fresh, setup}
 use Rattle.model.specs.declared.Answer.the-variants.{Refused, Done}
 use Rattle.model.proofs.Tests.{of-true, is-true}
-use Rattle.model.proofs.Facts.{Sized}
+use Rattle.model.specs.Facts.{Sized}
 use Rattle.model.proofs.Audit.{sized, sized-good}
 use Rattle.model.proofs.Outcomes.{refused, accepted}
 

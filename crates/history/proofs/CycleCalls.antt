@@ -15,9 +15,9 @@ use Rattle.marking.specs.Trace.{Step}
 use Rattle.marking.specs.Trace
 use Rattle.marking.proofs.Agreement.{Agrees}
 use Rattle.marking.proofs.Refinement
-use Rattle.model.specs.Memory.{Heap, choose, withBits, setRoot, slot, global, state, globalsState, phase, word, words, addressOf, stateAt, stackCount, slotCount, globalCount, firstGlobal, globalsStateAt, phaseAt, pageWords}
+use Rattle.model.specs.Memory.{Heap, choose, withBits, setRoot, slot, global, state, globalsState, phase, word, words, addressOf, stateAt, stackCount, slotCount, globalCount, firstGlobal, globalsStateAt, phaseAt, pageWords, unsweptFlag}
 use Rattle.model.specs.Bitmaps.{allocated, gray, is}
-use Rattle.model.specs.Spans.{owner, pageCount, kindEntry, startsSpan, isUnswept, spanOf, kept, unsweptFlag}
+use Rattle.model.specs.Spans.{owner, pageCount, kindEntry, startsSpan, isUnswept, spanOf, kept}
 use Rattle.model.specs.Answers.{_orElse_}
 use Rattle.model.specs.Checks.{phaseRefusal, openRefusal}
 use Rattle.model.specs.Shading.{shadeCount}
@@ -27,9 +27,10 @@ use Rattle.model.specs.declared.Answer.the-variants.{Done, Value, Swept}
 use Rattle.model.proofs.Tests.{is-true}
 use Rattle.model.proofs.Bounded.{first-props}
 use Rattle.model.proofs.Rules.{tests}
-use Rattle.model.proofs.Spans.{IsSpan, fits}
+use Rattle.model.specs.Facts.{IsSpan, Audited}
+use Rattle.model.proofs.Spans.{fits}
 use Rattle.model.proofs.Effects.{start-is, scan-stack-is}
-use Rattle.model.proofs.Facts.{Audited, reference-there, not-unswept, swept-all, pointer-word}
+use Rattle.model.proofs.Facts.{reference-there, not-unswept, swept-all, pointer-word}
 use Rattle.model.proofs.Checks.{passes, orElse-iff, OpenStack, open-passed, Finishes, finish-passed}
 use Rattle.keeps.proofs.Refusals.{given-small, orElse-small, finish-small}
 use Rattle.keeps.proofs.Roots.{started, started-kept, ended-kept}

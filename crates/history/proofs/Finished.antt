@@ -16,15 +16,16 @@ use Rattle.marking.proofs.Simulation.{nil-or-live}
 use Rattle.marking.specs.Ledger.{Ledger}
 use Rattle.marking.proofs.Agreement.{Agrees}
 use Rattle.model.specs.Bounded.{firstBelow}
-use Rattle.model.specs.Memory.{Heap, withTable, setRoot, wordOf, addressOf, phase, stackCount, slotCount, globalCount, firstGlobal, firstState, globalsStateAt, phaseAt, pageWords}
+use Rattle.model.specs.Memory.{Heap, withTable, setRoot, wordOf, addressOf, phase, stackCount, slotCount, globalCount, firstGlobal, firstState, globalsStateAt, phaseAt, pageWords, unsweptFlag}
 use Rattle.model.specs.Bitmaps.{allocated, marked, pointer, is}
-use Rattle.model.specs.Spans.{owner, pageCount, kindEntry, elementWords, spanOf, elementOf, kept, putPages, unsweptFlag}
+use Rattle.model.specs.Spans.{owner, pageCount, kindEntry, elementWords, spanOf, elementOf, kept, putPages}
 use Rattle.model.specs.Cycle.{unsweptPage}
 use Rattle.model.proofs.Tests.{of-true, is-true, cond-same}
 use Rattle.model.proofs.Bounded.{within, within-false}
 use Rattle.model.proofs.Table.{pages-length, pages-owner, pages-count, pages-kind}
-use Rattle.model.proofs.Spans.{Spans, GoodEntry, Element, span-of, in-span, at-home, round}
-use Rattle.model.proofs.Facts.{Audited, Bits, References, Reference, unsweptAt, no-pointer}
+use Rattle.model.specs.Facts.{Spans, GoodEntry, Element, Audited, Bits, References, Reference, unsweptAt}
+use Rattle.model.proofs.Spans.{span-of, in-span, at-home, round}
+use Rattle.model.proofs.Facts.{no-pointer}
 use Rattle.model.proofs.Checks.{Finishes}
 use Rattle.keeps.proofs.Roots.{root-at, root-other}
 use Rattle.keeps.proofs.Tables.{Same, Like, like, like-scan, like-words, bits-like}

@@ -16,7 +16,7 @@ use Rattle.model.specs.Spans.{owner, pageCount, kindEntry}
 use Rattle.model.specs.Records.{fresh}
 use Rattle.model.proofs.Tests.{of-true}
 use Rattle.model.proofs.Words.{set-at}
-use Rattle.model.proofs.Facts.{Audited, Sized}
+use Rattle.model.specs.Facts.{Audited, Sized}
 use Rattle.history.proofs.View.{view, phaseOf}
 
 abbrev zeros : ℕ → List ℕ

@@ -8,7 +8,7 @@ use Rattle.marking.specs.Claim
 use Rattle.marking.proofs.Freed.{Reached, reached}
 use Rattle.model.specs.Memory.{Heap}
 use Rattle.model.specs.Calls.{Request, step, after}
-use Rattle.model.proofs.Facts.{Audited}
+use Rattle.model.specs.Facts.{Audited}
 use Rattle.history.specs.Ledger.{onPages}
 use Rattle.history.specs.Demand.{eventOn, stagesOf, stages, freesIn}
 use Rattle.history.proofs.View.{view}

@@ -9,26 +9,24 @@ use native.Mathlib.Omega.{arith}
 use lib.ListN.{length, replicate}
 use lib.Dec.{T, eqb, ltb}
 use borrow.Author.Tests.{ltb-true, ltb-false, lt-ltb, le-ltb, eq-eqb, ne-eqb, eqb-true, eqb-false}
-use Rattle.marking.specs.WordHeap.{WordHeap}
+use Rattle.marking.specs.WordHeap.{WordHeap, Phase}
 use Rattle.marking.specs.Ledger.{Ledger, Event, feed}
-use Rattle.marking.specs.WordHeap.{Phase}
 use Rattle.marking.specs.Trace.{Step}
 use Rattle.marking.specs.Advance.{toMark, Advances}
 use Rattle.marking.proofs.Advance.{advancing}
 use Rattle.marking.specs.Advance
 use Rattle.marking.proofs.Freed.{Reached, reached-step}
 use Rattle.model.specs.Bounded.{countBelow, someBelow}
-use Rattle.model.specs.Memory.{Heap, phase, state, globalsState, words, stackCount, firstState, globalsStateAt, phaseAt, addressOf}
+use Rattle.model.specs.Memory.{Heap, phase, state, globalsState, words, stackCount, firstState, globalsStateAt, phaseAt, addressOf, unsweptFlag}
 use Rattle.model.specs.Answers.{_given_, _orElse_}
-use Rattle.model.specs.Spans.{kindEntry, startsSpan, isUnswept, unsweptFlag}
+use Rattle.model.specs.Spans.{kindEntry, startsSpan, isUnswept}
 use Rattle.model.specs.Checks.{phaseRefusal, openRefusal}
 use Rattle.model.specs.Cycle.{sweptTable, start, scanStack, scanGlobals, markStep, finish, sweepStep, firstGray, firstUnswept, finishRefusal}
 use Rattle.model.specs.Calls.{Start, ScanGlobals, MarkStep, Finish, SweepStep, ScanStack, run, Request, step, sweepsIn, sweepsOf, after, audited}
 use Rattle.model.proofs.Tests.{of-true, is-true}
 use Rattle.model.proofs.Bounded.{some-iff}
 use Rattle.model.proofs.Rules.{tests}
-use Rattle.model.proofs.Spans.{IsSpan}
-use Rattle.model.proofs.Facts.{Audited}
+use Rattle.model.specs.Facts.{IsSpan, Audited}
 use Rattle.model.proofs.Checks.{passes, entry-passes}
 use Rattle.history.specs.Ledger.{event, onPages}
 use Rattle.history.specs.Demand.{eventOn}

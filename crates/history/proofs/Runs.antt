@@ -25,7 +25,7 @@ use Rattle.model.specs.Calls.{entry, audited, Call, Setup, Audit, Start, ScanGl
 use Rattle.model.specs.declared.Answer.{Answer}
 use Rattle.model.specs.declared.Answer.the-variants.{Refused, Done}
 use Rattle.model.proofs.Tests.{of-true, is-true}
-use Rattle.model.proofs.Facts.{Audited, Sized}
+use Rattle.model.specs.Facts.{Audited, Sized}
 use Rattle.model.proofs.Audit.{sized, sized-good}
 use Rattle.model.proofs.Checks.{entry-passes}
 use Rattle.history.specs.Ledger.{event, onPages}

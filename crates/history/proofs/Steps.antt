@@ -18,7 +18,8 @@ use Rattle.model.specs.Calls.{audited, Call, Setup, Audit, Start, ScanGlobals, 
 use Rattle.model.specs.declared.Answer.{Answer}
 use Rattle.model.specs.declared.Answer.the-variants.{Refused, Value}
 use Rattle.model.proofs.Tests.{of-true}
-use Rattle.model.proofs.Facts.{Audited, not-unswept}
+use Rattle.model.specs.Facts.{Audited}
+use Rattle.model.proofs.Facts.{not-unswept}
 use Rattle.history.specs.Ledger.{refusal, accepted, event}
 use Rattle.history.proofs.View.{view, phaseOf, lateAt, wordsAt, runFrom, marking-is}
 

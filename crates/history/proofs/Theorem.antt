@@ -35,8 +35,8 @@ use Rattle.model.specs.declared.Answer.the-variants.{Value}
 use Rattle.model.proofs.Tests.{of-true, is-true}
 use Rattle.model.proofs.Bounded.{count-le}
 use Rattle.model.proofs.Bitmaps.{bit-inside}
-use Rattle.model.proofs.Spans.{Spans, whole}
-use Rattle.model.proofs.Facts.{Audited}
+use Rattle.model.specs.Facts.{Spans, Audited}
+use Rattle.model.proofs.Spans.{whole}
 use Rattle.model.proofs.Audit.{sized}
 use Rattle.history.specs.Ledger.{accepted, event, onPages}
 use Rattle.history.specs.Demand.{setupOf, eventOn, Stage, stages, eventsOf, endOf, events, ledger, Matches, FreePage, Pages, Answered, freesIn, freed, Demand}

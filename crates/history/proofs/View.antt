@@ -20,7 +20,7 @@ use Rattle.model.specs.Spans.{isFree, elementWords, spanOf}
 use Rattle.model.specs.Cycle.{scan}
 use Rattle.model.proofs.Tests.{eqb-shift}
 use Rattle.model.proofs.Words.{set-at}
-use Rattle.model.proofs.Facts.{Audited, bit, scanAt, unsweptAt}
+use Rattle.model.specs.Facts.{Audited, bit, scanAt, unsweptAt}
 use Rattle.keeps.proofs.Roots.{root-at, root-other, started, started-at, started-low, started-state}
 
 abbrev pub phaseOf : ℕ → Phase

@@ -22,7 +22,8 @@ use Rattle.model.proofs.Bounded.{within, within-yes, within-low, within-high}
 use Rattle.model.proofs.Words.{set-at, words-at, words-length}
 use Rattle.model.proofs.Bitmaps.{Four, samePart, part-at, part-length}
 use Rattle.model.proofs.Effects.{barrier-is}
-use Rattle.model.proofs.Facts.{Audited, bit, four, There}
+use Rattle.model.specs.Facts.{Audited, bit}
+use Rattle.model.proofs.Facts.{four, There}
 use Rattle.model.proofs.Shading.{shade-length, shade-marked, shade-gray, shade-other, all-four, all-other, all-suc, all-zero}
 use Rattle.keeps.proofs.Roots.{root-at, root-other, emptied-at}
 use Rattle.history.proofs.View.{view, phaseOf, scansAt, wordsAt, runFrom, elementsOf, coloursOf, slotsOf, globalsOf, states, colours-eq, heap-eq, marking-is, slots-same, globals-same, states-same, state-set}
@@ -220,7 +221,7 @@ scan-globals-view {h} F th = heap-eq refl (fun-ext (λ v. all-other P t (global 
     (ap (elementsOf t) (fun-ext (λ v. all-other P t (global h) (h .bits) f globalCount th pointer refl refl v))) refl
     (all-view P t (global h) (h .bits) f globalCount th r ∙ ap (shadeAllBits (scansAt t) (global h) globalCount) flagged
     ∙ all-cong (scansAt t) (global h) (globalsOf (h .roots)) globalCount (flags false (states (λ x. eqb x 2) (h .roots)) (coloursOf P (h .bits) (h .roots)))
-    (λ i b. rw (lt-ltb i slotCount b)))
+    (λ i b. rw (lt-ltb i globalCount b)))
     (slots-same r (h .roots) (λ x b. rest x (omega arith)))
     (globals-same r (h .roots) (λ x b c. rest x (omega arith)))
     (states-same (λ x. not (eqb x 0)) r (h .roots) (λ x b c. rest x (omega arith)))

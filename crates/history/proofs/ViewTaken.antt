@@ -15,15 +15,14 @@ use Rattle.marking.specs.WordHeap.{Elements, Alike, heapAllocate, heapSweep, Le
 use Rattle.marking.specs.Ledger.{Event}
 use Rattle.marking.specs.Trace.{Step}
 use Rattle.marking.specs.Trace
-use Rattle.model.specs.Memory.{Heap, withTable, addressOf, phase, stackCount, slotCount, firstGlobal, firstState, globalsStateAt, phaseAt, pageWords}
+use Rattle.model.specs.Memory.{Heap, withTable, addressOf, phase, stackCount, slotCount, firstGlobal, firstState, globalsStateAt, phaseAt, pageWords, unsweptFlag}
 use Rattle.model.specs.Bitmaps.{allocated, marked, gray, pointer, is}
-use Rattle.model.specs.Spans.{owner, pageCount, kindEntry, isFree, elementWords, elementStart, spanOf, elementOf, unsweptFlag}
+use Rattle.model.specs.Spans.{owner, pageCount, kindEntry, isFree, elementWords, elementStart, spanOf, elementOf}
 use Rattle.model.specs.Cycle.{sweptTable}
 use Rattle.model.proofs.Tests.{of-true}
 use Rattle.model.proofs.Bounded.{within, within-yes, within-low, within-high, first-is, first-cong}
-use Rattle.model.proofs.Spans.{IsSpan}
+use Rattle.model.specs.Facts.{IsSpan, Audited}
 use Rattle.model.proofs.Effects.{swept-at}
-use Rattle.model.proofs.Facts.{Audited}
 use Rattle.keeps.proofs.Tables.{Chosen, like-scan, like-words}
 use Rattle.keeps.proofs.Taken.{taken, taken-a, taken-m, taken-g, taken-p, taken-word, here, clear, bare, ends}
 use Rattle.keeps.proofs.Allocated.{Choice}

@@ -9,18 +9,18 @@ use lib.ListN.{getD}
 use lib.Dec.{T, eqb, ltb, leb, ltb→lt, leb→le}
 use borrow.Author.Tests.{ltb-true, eqb-true, not-true}
 use Rattle.model.specs.Bounded.{firstBelow}
-use Rattle.model.specs.Memory.{Heap, withTable, wordOf, phase, state, firstWord, stackCount, slotCount, pageWords}
+use Rattle.model.specs.Memory.{Heap, withTable, wordOf, phase, state, firstWord, stackCount, slotCount, pageWords, unsweptFlag}
 use Rattle.model.specs.Bitmaps.{allocated, is}
 use Rattle.model.specs.Classes.{classOf, kindOf, pagesFor, elementWordsOf}
-use Rattle.model.specs.Spans.{owner, kindEntry, isFree, elementWords, elements, elementStart, spanOf, elementOf, putPages, spanPage, unsweptFlag}
+use Rattle.model.specs.Spans.{owner, kindEntry, isFree, elementWords, elements, elementStart, spanOf, elementOf, putPages, spanPage}
 use Rattle.model.specs.Allocate.{freeElement, hasRoom, spanWithRoom, runLength, isRun, isShortest, bestRun, roomFor, newWord, newTable}
 use Rattle.model.proofs.Tests.{is-true, and-iff}
 use Rattle.model.proofs.Bounded.{first-props}
 use Rattle.model.proofs.Classes.{Takes}
 use Rattle.model.proofs.Table.{pages-length}
-use Rattle.model.proofs.Spans.{Spans, IsSpan}
+use Rattle.model.specs.Facts.{Spans, IsSpan, Sized, Audited, Bits, Phases, References, Reference, bit, scanAt, unsweptAt, keptAt}
 use Rattle.model.proofs.Effects.{room-is, room-words}
-use Rattle.model.proofs.Facts.{Sized, Audited, Bits, Phases, References, Reference, bit, scanAt, unsweptAt, keptAt, kept-allocated}
+use Rattle.model.proofs.Facts.{kept-allocated}
 use Rattle.keeps.proofs.Tables.{Chosen, Vacant, like-scan, like-words, like-element, carve-spans, carve-bits, carve-like, carve-unswept, carve-chosen, which, new-entry, used-same}
 use Rattle.keeps.proofs.Taken.{taken, taken-kept}
 

@@ -8,15 +8,15 @@ use native.Mathlib.Omega.{arith}
 use lib.ListN.{getD, set, length, length-set}
 use lib.Dec.{eqb}
 use borrow.Author.Tests.{eq-eqb, ne-eqb, eqb-true, eqb-false}
-use Rattle.model.specs.Memory.{Heap, withRoots, setRoot, putWords, slotAt, globalAt, stateAt, stackCount, slotCount, globalCount, firstGlobal, firstState, globalsStateAt, phaseAt, rootWords}
+use Rattle.model.specs.Memory.{Heap, withRoots, setRoot, putWords, slotAt, globalAt, stateAt, stackCount, slotCount, globalCount, firstGlobal, firstState, globalsStateAt, phaseAt, rootWords, unsweptFlag}
 use Rattle.model.specs.Bitmaps.{is, marked}
-use Rattle.model.specs.Spans.{kindEntry, unsweptFlag}
+use Rattle.model.specs.Spans.{kindEntry}
 use Rattle.model.specs.Records.{emptied}
 use Rattle.model.proofs.Tests.{of-true, is-true}
 use Rattle.model.proofs.Bounded.{within, within-yes, within-low, within-high}
 use Rattle.model.proofs.Words.{set-at, words-at, words-length}
-use Rattle.model.proofs.Spans.{IsSpan}
-use Rattle.model.proofs.Facts.{Audited, Phases, States, Reference, swept-all}
+use Rattle.model.specs.Facts.{IsSpan, Audited, Phases, States, Reference}
+use Rattle.model.proofs.Facts.{swept-all}
 
 -- nil or the address of a kept element of a heap
 abbrev pub Refers : Heap → ℕ → Type 0

@@ -18,7 +18,8 @@ use Rattle.model.proofs.Tests.{is-true, of-true, and-iff, or-iff}
 use Rattle.model.proofs.Words.{set-at}
 use Rattle.model.proofs.Bitmaps.{samePart, part-at, part-length, bit-inside}
 use Rattle.model.proofs.Effects.{barrier-is}
-use Rattle.model.proofs.Facts.{Audited, bit, scanAt, unsweptAt, keptAt, four, There, named, reference-there, not-unswept, pointer-word, no-pointer}
+use Rattle.model.specs.Facts.{Audited, bit, scanAt, unsweptAt, keptAt}
+use Rattle.model.proofs.Facts.{four, There, named, reference-there, not-unswept, pointer-word, no-pointer}
 use Rattle.model.proofs.Shading.{shade-length, shade-marked, shade-gray, shade-other}
 use Rattle.keeps.proofs.Roots.{Refers, global-kept, scanned-kept, globals-kept}
 

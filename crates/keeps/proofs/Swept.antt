@@ -8,16 +8,17 @@ use native.Mathlib.Omega.{arith}
 use lib.ListN.{getD}
 use lib.Dec.{T, eqb}
 use borrow.Author.Tests.{lt-leb, le-leb, eq-eqb, eqb-true, eqb-false, not-false}
-use Rattle.model.specs.Memory.{Heap, wordOf, phase, pageWords}
+use Rattle.model.specs.Memory.{Heap, wordOf, phase, pageWords, unsweptFlag}
 use Rattle.model.specs.Bitmaps.{Part, allocated, marked, gray, pointer, is}
-use Rattle.model.specs.Spans.{owner, pageCount, kindEntry, isFree, elementWords, elements, elementStart, elementNumber, spanOf, elementOf, kept, unsweptFlag}
+use Rattle.model.specs.Spans.{owner, pageCount, kindEntry, isFree, elementWords, elements, elementStart, elementNumber, spanOf, elementOf, kept}
 use Rattle.model.specs.Cycle.{sweptBits, sweptTable, nothingLeft}
 use Rattle.model.proofs.Tests.{of-true, is-true, clash, and-iff, same-test}
 use Rattle.model.proofs.Bounded.{within, within-yes, within-true, all-at, some-fails}
 use Rattle.model.proofs.Bitmaps.{samePart}
-use Rattle.model.proofs.Spans.{IsSpan, Element, startIn, start-same, span-of, in-span, at-home, spans-apart, element-word, round, whole, fits}
+use Rattle.model.specs.Facts.{IsSpan, Element, Audited, Bits, Phases, References, Reference, Occupied, bit, unsweptAt, keptAt}
+use Rattle.model.proofs.Spans.{startIn, start-same, span-of, in-span, at-home, spans-apart, element-word, round, whole, fits}
 use Rattle.model.proofs.Effects.{swept-at, swept-length}
-use Rattle.model.proofs.Facts.{Audited, Bits, Phases, References, Reference, Occupied, bit, unsweptAt, keptAt, kept-allocated}
+use Rattle.model.proofs.Facts.{kept-allocated}
 use Rattle.keeps.proofs.SweptTable.{within-no, scaled, swept, inside, low, own, outside, gone, stays, same-out, same-left, page-out, swept-spans, table-length}
 use Rattle.keeps.proofs.Tables.{Like, like, like-scan, like-element, like-in, like-first}
 

@@ -9,14 +9,14 @@ use native.Mathlib.Omega.{arith}
 use lib.ListN.{length}
 use lib.Dec.{eqb}
 use borrow.Author.Tests.{eq-eqb, ne-eqb, eqb-true, eqb-false}
-use Rattle.model.specs.Memory.{Heap, lent, pageWords, entryNumbers}
-use Rattle.model.specs.Spans.{owner, pageCount, kindEntry, putPage, putPages, spanPage, freePage, unsweptFlag}
+use Rattle.model.specs.Memory.{Heap, lent, pageWords, entryNumbers, unsweptFlag}
+use Rattle.model.specs.Spans.{owner, pageCount, kindEntry, putPage, putPages, spanPage, freePage}
 use Rattle.model.specs.Cycle.{sweptBits, sweptTable, nothingLeft}
 use Rattle.model.proofs.Bounded.{within, within-yes, within-low, within-high, within-true, within-false}
 use Rattle.model.proofs.Table.{page-length, owner-put, count-put, kind-put, pages-length, pages-owner, pages-count, pages-kind}
-use Rattle.model.proofs.Spans.{Spans, IsSpan, GoodEntry, fits}
+use Rattle.model.specs.Facts.{Spans, IsSpan, GoodEntry, Audited}
+use Rattle.model.proofs.Spans.{fits}
 use Rattle.model.proofs.Effects.{swept-table}
-use Rattle.model.proofs.Facts.{Audited}
 use Rattle.keeps.proofs.Tables.{Same}
 
 -- a choice of two places outside a run

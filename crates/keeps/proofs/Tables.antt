@@ -8,15 +8,15 @@ use mathlib.Core.Path.{_≡_, refl, ap, sym, _∙_}
 use native.Mathlib.Omega.{arith}
 use lib.Dec.{T, eqb, ltb}
 use borrow.Author.Tests.{eq-eqb, ne-eqb}
-use Rattle.model.specs.Memory.{pageWords}
+use Rattle.model.specs.Memory.{pageWords, unsweptFlag}
 use Rattle.model.specs.Bitmaps.{allocated, gray}
 use Rattle.model.specs.Classes.{elementWordsOf}
-use Rattle.model.specs.Spans.{owner, pageCount, kindEntry, isScan, elementWords, elements, elementStart, elementNumber, spanOf, elementOf, putPages, spanPage, unsweptFlag}
+use Rattle.model.specs.Spans.{owner, pageCount, kindEntry, isScan, elementWords, elements, elementStart, elementNumber, spanOf, elementOf, putPages, spanPage}
 use Rattle.model.proofs.Tests.{is-true}
 use Rattle.model.proofs.Bounded.{within, within-yes, within-true}
 use Rattle.model.proofs.Table.{Tabled, pages-owner, pages-count, pages-kind}
-use Rattle.model.proofs.Spans.{Spans, IsSpan, GoodEntry, InElement, Element, span-of, entry-fits}
-use Rattle.model.proofs.Facts.{Bits, bit, scanAt, unsweptAt}
+use Rattle.model.specs.Facts.{Spans, IsSpan, GoodEntry, InElement, Element, Bits, bit, scanAt, unsweptAt}
+use Rattle.model.proofs.Spans.{span-of, entry-fits}
 
 -- two tables say the same of a page, but for the flag
 abbrev pub Same : List ℕ → List ℕ → ℕ → Type 0

@@ -8,17 +8,17 @@ use native.Mathlib.Omega.{arith}
 use lib.ListN.{getD, set, length-set}
 use lib.Dec.{T, eqb, ltb, eqb→eq, ltb→lt}
 use borrow.Author.Tests.{lt-ltb, lt-leb, eq-eqb, ne-eqb, eqb-true, eqb-false}
-use Rattle.model.specs.Memory.{Heap, lent, putWords, slotAt, addressOf, wordOf, phase, stackCount, slotCount, firstGlobal, firstState, globalsStateAt, phaseAt, pageWords}
+use Rattle.model.specs.Memory.{Heap, lent, putWords, slotAt, addressOf, wordOf, phase, stackCount, slotCount, firstGlobal, firstState, globalsStateAt, phaseAt, pageWords, unsweptFlag}
 use Rattle.model.specs.Bitmaps.{Part, allocated, marked, gray, pointer, is}
-use Rattle.model.specs.Spans.{owner, pageCount, kindEntry, elementWords, elementStart, spanOf, elementOf, kept, unsweptFlag}
+use Rattle.model.specs.Spans.{owner, pageCount, kindEntry, elementWords, elementStart, spanOf, elementOf, kept}
 use Rattle.model.specs.Allocate.{newBits}
 use Rattle.model.proofs.Tests.{of-true, is-true, clash, and-iff}
 use Rattle.model.proofs.Bounded.{within, within-yes, within-true}
 use Rattle.model.proofs.Words.{set-at, words-at, words-length}
 use Rattle.model.proofs.Bitmaps.{samePart}
-use Rattle.model.proofs.Spans.{Spans, IsSpan, InElement, Element, span-of, in-span, spans-apart, elements-apart, element-fits, element-word, element-at, fits, whole}
+use Rattle.model.specs.Facts.{Spans, IsSpan, InElement, Element, Sized, Audited, Bits, Phases, References, Reference, States, Occupied, bit, scanAt, unsweptAt, keptAt}
+use Rattle.model.proofs.Spans.{span-of, in-span, spans-apart, elements-apart, element-fits, element-word, element-at, fits, whole}
 use Rattle.model.proofs.Effects.{new-length, new-at}
-use Rattle.model.proofs.Facts.{Sized, Audited, Bits, Phases, References, Reference, States, Occupied, bit, scanAt, unsweptAt, keptAt}
 use Rattle.keeps.proofs.Tables.{Chosen}
 
 -- the heap after the element of n words at word w was taken, with p pointers, into slot i of stack s

@@ -10,17 +10,17 @@ use lib.ListN.{length, List·getD-eq-default}
 use lib.Dec.{T, eqb, ltb}
 use borrow.Author.Tests.{ltb-true, ltb-false, eqb-true, eqb-false}
 use Rattle.model.specs.Bounded.{someBelow}
-use Rattle.model.specs.Memory.{Heap, goodBuffers, words, state, globalsState, phase, root, word, slot, wordOf, addressOf, stackCount, slotCount, firstState, rootWords, pageWords, maxPages, entryNumbers, bitmapWords}
+use Rattle.model.specs.Memory.{Heap, goodBuffers, words, state, globalsState, phase, root, word, slot, wordOf, addressOf, stackCount, slotCount, firstState, rootWords, pageWords, maxPages, entryNumbers, bitmapWords, unsweptFlag}
 use Rattle.model.specs.Classes.{classPages, kinds, fewestLarge, mostLarge}
 use Rattle.model.specs.Bitmaps.{Part, allocated, marked, gray, pointer, is}
-use Rattle.model.specs.Spans.{owner, pageCount, kindEntry, kindAt, classAt, spanOf, elementOf, elementNumber, elements, elementStart, kept, unsweptFlag}
+use Rattle.model.specs.Spans.{owner, pageCount, kindEntry, kindAt, classAt, spanOf, elementOf, elementNumber, elements, elementStart, kept}
 use Rattle.model.specs.Audit.{goodKind, goodFirst, goodPage, goodWord, goodStack, goodStates, isReference, audit}
 use Rattle.model.proofs.Tests.{of-true, and-iff, or-iff, eqb-iff, leb-iff}
 use Rattle.model.proofs.Bounded.{some-iff}
 use Rattle.model.proofs.Bitmaps.{bit-inside}
 use Rattle.model.proofs.Rules.{tests, else-iff}
-use Rattle.model.proofs.Spans.{Spans, IsSpan, GoodEntry, element-word, entry-fits, fits}
-use Rattle.model.proofs.Facts.{Sized, Reference, Audited}
+use Rattle.model.specs.Facts.{Spans, IsSpan, GoodEntry, Sized, Reference, Audited}
+use Rattle.model.proofs.Spans.{element-word, entry-fits, fits}
 
 -- the buffers' lengths
 

@@ -22,7 +22,7 @@ use Rattle.model.proofs.Tests.{is-true, of-true, and-iff, nor-iff, not-
 use Rattle.model.proofs.Bounded.{all-iff, first-props}
 use Rattle.model.proofs.Bitmaps.{bit-inside}
 use Rattle.model.proofs.Rules.{cond-iff}
-use Rattle.model.proofs.Facts.{Audited, Sized}
+use Rattle.model.specs.Facts.{Audited, Sized}
 use Rattle.model.proofs.Audit.{sized, sized-good, audit-facts, facts-audit}
 
 pub given-iff : (n : ℕ) (b : Bool) → eqb n 0 ≡ false → ((n given b) ≡ 0) ↔ T (not b)
@@ -61,7 +61,7 @@ pub slots-passed : (h : Heap) (s i j : ℕ) → slotsRefusal h s i j ≡ 0 → O
 unfolding slotsRefusal
 slots-passed h s i j e = let x = simp passes at e in (record { below = x .0 .0; isOpen = x .0 .1 }, x .1 .0, x .1 .1)
 
-pub global-passed : (h : Heap) (s i g : ℕ) → globalRefusal h s i g ≡ 0 → OpenStack h s × (i < globalCount) × (g < globalCount)
+pub global-passed : (h : Heap) (s i g : ℕ) → globalRefusal h s i g ≡ 0 → OpenStack h s × (i < slotCount) × (g < globalCount)
 unfolding globalRefusal
 global-passed h s i g e = let x = simp passes at e in (record { below = x .0 .0; isOpen = x .0 .1 }, x .1 .0, x .1 .1)
 

@@ -9,13 +9,13 @@ use lib.ListN.{length, set}
 use lib.Dec.{T, eqb}
 use borrow.Author.Tests.{not-true}
 use Rattle.model.specs.Bounded.{firstBelow}
-use Rattle.model.specs.Memory.{Heap, lent, withRoots, putWords, root, slot, slotAt, stateAt, addressOf, phase, stackCount, slotCount, firstState, globalsStateAt, phaseAt, pageWords}
+use Rattle.model.specs.Memory.{Heap, lent, withRoots, putWords, root, slot, slotAt, stateAt, addressOf, phase, stackCount, slotCount, firstState, globalsStateAt, phaseAt, pageWords, unsweptFlag}
 use Rattle.model.specs.Answers.{outcome, _orElse_}
 use Rattle.model.specs.Checks.{phaseRefusal, openRefusal}
 use Rattle.model.specs.Classes.{classOf, kindOf, pagesFor, elementsOf, elementWordsOf}
 use Rattle.model.specs.declared.Answer.the-variants.{Done, Value}
 use Rattle.model.specs.Bitmaps.{Part, allocated, marked, pointer, is, putBit, putBits}
-use Rattle.model.specs.Spans.{pageCount, kindEntry, elements, elementWords, elementStart, elementNumber, freePage, spanPage, putPage, putPages, unsweptFlag}
+use Rattle.model.specs.Spans.{pageCount, kindEntry, elements, elementWords, elementStart, elementNumber, freePage, spanPage, putPage, putPages}
 use Rattle.model.specs.Shading.{shade, barrier}
 use Rattle.model.specs.Allocate.{freeElement, hasRoom, newBits, newTable, newWord, allocateRefusal, allocate}
 use Rattle.model.specs.Cycle.{sweptBits, sweptTable, nothingLeft, start, scanStack, scanOutcome}
@@ -24,8 +24,9 @@ use Rattle.model.proofs.Rules.{tests}
 use Rattle.model.proofs.Bounded.{within, first-props}
 use Rattle.model.proofs.Bitmaps.{Four, samePart, part-at, part-run, part-length, run-length}
 use Rattle.model.proofs.Classes.{Takes, words-any}
-use Rattle.model.proofs.Spans.{IsSpan, startIn}
-use Rattle.model.proofs.Facts.{Sized, Audited, bit, four}
+use Rattle.model.specs.Facts.{IsSpan, Sized, Audited, bit}
+use Rattle.model.proofs.Spans.{startIn}
+use Rattle.model.proofs.Facts.{four}
 
 -- the barrier: in the mark phase the old value is shaded, then the new; in any other nothing is
 pub barrier-is : (h : Heap) (old new : ℕ) →

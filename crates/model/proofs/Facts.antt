@@ -1,5 +1,4 @@
--- What an audit that says yes says, as facts: small records, each over only what it reads, so that a call that changes one buffer keeps the
--- others by name. `Audited` joins them; proofs/Audit.antt turns the test into them and back.
+-- What follows from the facts of the audit (specs/Facts.antt): which words are kept, named and pointers.
 use Prim.Native.Nat.{ℕ, zero, suc, _+_, _-_, _*_, _<_, _≤_}
 use mathlib.Core.Bool.{Bool, true, false, not, cond, true≢false}
 use mathlib.Core.List.{List}
@@ -9,84 +8,17 @@ use native.Mathlib.Omega.{arith}
 use lib.ListN.{getD, length}
 use lib.Dec.{T, eqb, ltb, leb}
 use borrow.Author.Tests.{ltb-true, lt-leb}
-use Rattle.model.specs.Memory.{Heap, wordOf, addressOf, stackCount, slotCount, firstState, globalsStateAt, phaseAt, rootWords, pageWords, maxPages, entryNumbers, bitmapWords}
+use Rattle.model.specs.Memory.{Heap, wordOf, addressOf, stackCount, slotCount, firstState, globalsStateAt, phaseAt, rootWords, pageWords, maxPages, entryNumbers, bitmapWords, unsweptFlag}
 use Rattle.model.specs.Bitmaps.{Part, allocated, marked, gray, pointer, bitIn, is}
-use Rattle.model.specs.Spans.{owner, kindEntry, isScan, isUnswept, spanOf, elementOf, elementWords, pointerCount, kept, unsweptFlag}
+use Rattle.model.specs.Spans.{owner, kindEntry, isScan, isUnswept, spanOf, elementOf, elementWords, pointerCount, kept}
 use Rattle.model.proofs.Tests.{of-true, is-true}
 use Rattle.model.proofs.Bounded.{first-props}
 use Rattle.model.proofs.Bitmaps.{Four, bit-inside}
-use Rattle.model.proofs.Spans.{Spans, IsSpan, InElement, Element, own-word}
-
--- the four lengths, and P
-pub record Sized (h : Heap) : Type 0 where
-  pub low : 1 ≤ h .pages
-  pub high : h .pages ≤ maxPages
-  pub arena : length (h .arena) ≡ pageWords * h .pages
-  pub table : length (h .table) ≡ entryNumbers * h .pages
-  pub bits : length (h .bits) ≡ bitmapWords * h .pages
-  pub roots : length (h .roots) ≡ rootWords
+use Rattle.model.specs.Facts.{Sized, IsSpan, Spans, InElement, Element, bit, unsweptAt, keptAt, Bits, Phases, Reference, Audited}
+use Rattle.model.proofs.Spans.{own-word}
 
 pub four : (h : Heap) → Sized h → Four (pageWords * h .pages) (h .bits)
 four h Z = omega (arith, Z .bits)
-
--- the bit of word w in a part of the bitmaps of P pages
-abbrev pub bit : ℕ → Part → List ℕ → ℕ → Bool
-bit P q b w = bitIn (pageWords * P) q b w
-
--- the span of word w is a scan span, is unswept
-abbrev pub scanAt : List ℕ → ℕ → Bool
-scanAt t w = isScan t (spanOf t w)
-
-abbrev pub unsweptAt : List ℕ → ℕ → Bool
-unsweptAt t w = isUnswept t (spanOf t w)
-
--- the bits, word by word
-pub record Bits (P : ℕ) (t b : List ℕ) : Type 0 where
-  pub element : (w : ℕ) → T (bit P allocated b w) → Element t w
-  pub marks : (w : ℕ) → T (bit P marked b w) → T (bit P allocated b w)
-  pub grays : (w : ℕ) → T (bit P gray b w) → T (bit P marked b w) × T (scanAt t w)
-  pub pointers : (w : ℕ) → T (bit P pointer b w) → InElement t w × T (scanAt t w) × T (bit P allocated b (elementOf t w))
-  pub head : (w : ℕ) → T (bit P allocated b w) → T (scanAt t w) → T (bit P pointer b w)
-  pub run : (w : ℕ) → T (bit P pointer b w) → elementOf t w ≢ w → T (bit P pointer b (w - 1))
-
--- what depends on the phase
-pub record Phases (P ph : ℕ) (t b : List ℕ) : Type 0 where
-  pub none : ph ≡ 0 → (w : ℕ) → bit P marked b w ≡ false
-  pub swept : ph ≢ 2 → (s : ℕ) → IsSpan t s → kindEntry t s < unsweptFlag
-  pub plain : ph ≢ 1 → (w : ℕ) → bit P gray b w ≡ false
-  pub unswept : ph ≡ 2 → (w : ℕ) → T (bit P marked b w) → T (unsweptAt t w)
-
--- "Kept means marked in an unswept span, allocated elsewhere."
-abbrev pub keptAt : ℕ → List ℕ → List ℕ → ℕ → Bool
-keptAt P t b w = cond (unsweptAt t w) (bit P marked b w) (bit P allocated b w)
-
--- "nil or the address of a kept element"
-abbrev pub Reference : ℕ → List ℕ → List ℕ → ℕ → Type 0
-Reference P t b v = (v ≡ 0) ⊎ ((v ≡ addressOf (wordOf v)) × T (keptAt P t b (wordOf v)))
-
-pub record References (h : Heap) : Type 0 where
-  pub root : (i : ℕ) → i < firstState → Reference (h .pages) (h .table) (h .bits) (getD (h .roots) i 0)
-  pub content : (w : ℕ) → T (is pointer h w) → T (kept h (elementOf (h .table) w)) → Reference (h .pages) (h .table) (h .bits) (getD (h .arena) w 0)
-
--- the states and the phase
-pub record States (r : List ℕ) : Type 0 where
-  pub phase : getD r phaseAt 0 ≤ 2
-  pub legal : (s : ℕ) → s < stackCount → (getD r (firstState + s) 0 ≤ 2) × (getD r (firstState + s) 0 ≡ 2 → getD r phaseAt 0 ≡ 1)
-  pub globals : (1 ≤ getD r globalsStateAt 0) × (getD r globalsStateAt 0 ≤ 2) × (getD r globalsStateAt 0 ≡ 2 → getD r phaseAt 0 ≡ 1)
-  pub closed : (s i : ℕ) → s < stackCount → i < slotCount → getD r (firstState + s) 0 ≡ 0 → getD r (slotCount * s + i) 0 ≡ 0
-
--- "at least one [allocated] per span"
-abbrev pub Occupied : ℕ → List ℕ → List ℕ → Type 0
-Occupied P t b = (s : ℕ) → IsSpan t s → (w : ℕ) × T (bit P allocated b w) × (spanOf t w ≡ s)
-
-pub record Audited (h : Heap) : Type 0 where
-  pub sized : Sized h
-  pub spans : Spans (h .pages) (h .table)
-  pub bits : Bits (h .pages) (h .table) (h .bits)
-  pub phases : Phases (h .pages) (getD (h .roots) phaseAt 0) (h .table) (h .bits)
-  pub references : References h
-  pub states : States (h .roots)
-  pub occupied : Occupied (h .pages) (h .table) (h .bits)
 
 -- no span is unswept
 pub swept-all : {P : ℕ} {t : List ℕ} → Spans P t → ((s : ℕ) → IsSpan t s → kindEntry t s < unsweptFlag) → (g : ℕ) → isUnswept t g ≡ false

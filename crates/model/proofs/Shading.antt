@@ -14,7 +14,8 @@ use Rattle.model.specs.Bitmaps.{Part, marked, gray, putBit}
 use Rattle.model.specs.Spans.{isScan, spanOf}
 use Rattle.model.specs.Shading.{shade, shadeAll}
 use Rattle.model.proofs.Bitmaps.{Four, samePart, part-at, part-length}
-use Rattle.model.proofs.Facts.{bit, scanAt, There}
+use Rattle.model.specs.Facts.{bit, scanAt}
+use Rattle.model.proofs.Facts.{There}
 
 cond-or : (b x : Bool) → cond b true x ≡ (x || b)
 cond-or true x = sym (or-true x)

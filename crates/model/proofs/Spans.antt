@@ -10,9 +10,10 @@ use native.Mathlib.Nat.{mul-le-mul-right, suc-mul, div-add-mod', mod-lt}
 use lib.Arith.{digits-div}
 use lib.Dec.{eqb, ltb}
 use borrow.Author.Tests.{ltb-true, ltb-false, eqb-true, eqb-false}
-use Rattle.model.specs.Memory.{pageWords}
+use Rattle.model.specs.Memory.{pageWords, unsweptFlag}
 use Rattle.model.specs.Classes.{classPages, kinds, fewestLarge, mostLarge}
-use Rattle.model.specs.Spans.{owner, pageCount, kindEntry, elementWords, elements, elementStart, elementNumber, spanOf, elementOf, unsweptFlag}
+use Rattle.model.specs.Spans.{owner, pageCount, kindEntry, elementWords, elements, elementStart, elementNumber, spanOf, elementOf}
+use Rattle.model.specs.Facts.{IsSpan, GoodEntry, Spans, InElement, Element}
 use Rattle.model.proofs.Classes.{Fits, small-fits, large-fits}
 
 -- the first word of the element, of the span at page s, that word v lies in
@@ -65,28 +66,6 @@ elements-apart t s k v e d = go (ltb (elementNumber t s v) k) refl (ltb k (eleme
 product-fits : (k m n : ℕ) → k < m → k * n + n ≤ m * n
 product-fits k m n l = omega (arith, rw (suc-mul k n) at (mul-le-mul-right n l))
 
--- what the audit says of the page table
-
--- a span starts at page s
-abbrev pub IsSpan : List ℕ → ℕ → Type 0
-IsSpan t s = owner t s ≡ s + 1
-
--- the entry of a span's first page: one of the 134 kinds, at most with the unswept flag, and the class's page count
-pub record GoodEntry (entry count : ℕ) : Type 0 where
-  pub flag : entry < unsweptFlag + unsweptFlag
-  pub kind : entry % unsweptFlag < kinds
-  pub large : entry % unsweptFlag / 2 ≡ 0 → (fewestLarge ≤ count) × (count ≤ mostLarge)
-  pub small : entry % unsweptFlag / 2 ≢ 0 → count ≡ classPages (entry % unsweptFlag / 2)
-
-pub record Spans (P : ℕ) (t : List ℕ) : Type 0 where
-  -- a page that is not free lies in the span that it names
-  pub whose : (g : ℕ) → 0 < owner t g → IsSpan t (owner t g - 1) × (owner t g - 1 ≤ g) × (g < owner t g - 1 + pageCount t (owner t g - 1))
-  -- a span's pages name it
-  pub body : (s g : ℕ) → IsSpan t s → s ≤ g → g < s + pageCount t s → owner t g ≡ s + 1
-  pub inside : (s : ℕ) → IsSpan t s → s + pageCount t s ≤ P
-  pub rest : (g : ℕ) → owner t g ≢ g + 1 → (pageCount t g ≡ 0) × (kindEntry t g ≡ 0)
-  pub entry : (s : ℕ) → IsSpan t s → GoodEntry (kindEntry t s) (pageCount t s)
-
 -- the elements of a span fit into it
 pub entry-fits : (kind count : ℕ) → GoodEntry kind count → Fits (kind % unsweptFlag / 2) count
 entry-fits kind count G = go (eqb (kind % unsweptFlag / 2) 0) refl
@@ -94,16 +73,6 @@ entry-fits kind count G = go (eqb (kind % unsweptFlag / 2) 0) refl
     go : (b : Bool) → eqb (kind % unsweptFlag / 2) 0 ≡ b → Fits (kind % unsweptFlag / 2) count
     go true e = let z = eqb-true (kind % unsweptFlag / 2) 0 e in let l = G .large z in rw z (large-fits count (omega arith) (omega arith))
     go false e = let z = eqb-false (kind % unsweptFlag / 2) 0 e in rw (G .small z) (small-fits (kind % unsweptFlag / 2) z (omega (arith, G .kind)))
-
--- word w lies in an element: not on a free page, not in the tail of a span
-pub record InElement (t : List ℕ) (w : ℕ) : Type 0 where
-  pub used : 0 < owner t (w / pageWords)
-  pub number : elementNumber t (spanOf t w) w < elements t (spanOf t w)
-
--- .. and is its first word
-pub record Element (t : List ℕ) (w : ℕ) : Type 0 where
-  pub lies : InElement t w
-  pub first : elementOf t w ≡ w
 
 module _ {P : ℕ} {t : List ℕ} (F : Spans P t) where
   pub fits : (s : ℕ) → IsSpan t s → Fits (kindEntry t s % unsweptFlag / 2) (pageCount t s)

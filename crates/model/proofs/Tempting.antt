@@ -10,10 +10,10 @@ use native.Mathlib.Omega.{arith}
 use lib.ListN.{getD}
 use lib.Dec.{T, eqb}
 use borrow.Author.Tests.{eqb-true, eqb-false, eq-eqb, ne-eqb, lt-leb}
-use Rattle.model.specs.Memory.{Heap, putWords, phase, state, slot, wordOf, slotCount, pageWords}
+use Rattle.model.specs.Memory.{Heap, putWords, phase, state, slot, wordOf, slotCount, pageWords, unsweptFlag}
 use Rattle.model.specs.Classes.{classOf, kindOf, pagesFor, elementWordsOf}
 use Rattle.model.specs.Bitmaps.{allocated, marked, pointer, is}
-use Rattle.model.specs.Spans.{putPage, owner, pageCount, kindEntry, isUnswept, elementStart, elementNumber, spanPage, unsweptFlag}
+use Rattle.model.specs.Spans.{putPage, owner, pageCount, kindEntry, isUnswept, elementStart, elementNumber, spanPage}
 use Rattle.model.specs.Shading.{shade, shadeAll, barrier}
 use Rattle.model.specs.Checks.{phaseRefusal, openRefusal}
 use Rattle.model.specs.Answers.{_orElse_}
@@ -24,9 +24,9 @@ use Rattle.model.proofs.Bounded.{within, within-yes}
 use Rattle.model.proofs.Words.{words-at}
 use Rattle.model.proofs.Bitmaps.{Four}
 use Rattle.model.proofs.Table.{owner-put}
-use Rattle.model.proofs.Spans.{IsSpan}
+use Rattle.model.specs.Facts.{IsSpan, Sized, bit}
 use Rattle.model.proofs.Effects.{barrier-is, new-at, swept-at, swept-table, room-is, allocate-is, start-is, scan-stack-is}
-use Rattle.model.proofs.Facts.{Sized, bit, four, There}
+use Rattle.model.proofs.Facts.{four, There}
 use Rattle.model.proofs.Shading.{shade-length, shade-marked, all-four, all-suc}
 
 -- a shaded record is marked, and a marked one stays so

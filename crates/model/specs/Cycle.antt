@@ -3,10 +3,10 @@ use Prim.Native.Nat.{ℕ, _+_, _*_}
 use mathlib.Core.Bool.{Bool, false, _&&_, _||_, not, cond}
 use mathlib.Core.List.{List}
 use Rattle.model.specs.Bounded.{_==_, _<?_, if_then_else_, allBelow, firstBelow, someBelow, countBelow}
-use Rattle.model.specs.Memory.{Heap, lent, choose, withTable, withBits, words, pageWords, stackCount, slotCount, globalCount, slot, global, state, root, globalsState, firstState, stateAt, globalsStateAt, phaseAt, closed, openState, grayState, off, mark, sweep, setRoot, putWords, withRoots, word, addressOf, firstWord}
+use Rattle.model.specs.Memory.{Heap, lent, choose, withTable, withBits, words, pageWords, stackCount, slotCount, globalCount, slot, global, state, root, globalsState, firstState, stateAt, globalsStateAt, phaseAt, closed, openState, grayState, off, mark, sweep, setRoot, putWords, withRoots, word, addressOf, firstWord, unsweptFlag}
 use Rattle.model.specs.Answers.{Outcome, outcome, _orElse_, _given_, unfinished}
 use Rattle.model.specs.Bitmaps.{is, allocated, marked, gray, pointer, putBit, putBits}
-use Rattle.model.specs.Spans.{owner, pageCount, kindEntry, kindAt, startsSpan, isUnswept, unsweptFlag, elements, elementStart, elementNumber, isPointer, pointerCount, Entry, freePage, putPage, putPages, spanPage}
+use Rattle.model.specs.Spans.{owner, pageCount, kindEntry, kindAt, startsSpan, isUnswept, elements, elementStart, elementNumber, isPointer, pointerCount, Entry, freePage, putPage, putPages, spanPage}
 use Rattle.model.specs.Checks.{phaseRefusal, openRefusal}
 use Rattle.model.specs.Shading.{shadeAll, shadeCount}
 use Rattle.model.specs.declared.Answer.the-variants.{Done, Value, Swept}

@@ -10,5 +10,6 @@ pub mod Shading
 pub mod Records
 pub mod Cycle
 pub mod Audit
+pub mod Facts
 pub mod Calls
 pub mod Cases

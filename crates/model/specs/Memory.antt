@@ -24,6 +24,10 @@ wordBytes = 8
 abbrev pub entryNumbers : ℕ
 entryNumbers = 3
 
+-- "plus 256 in the kind if the span is unswept"
+abbrev pub unsweptFlag : ℕ
+unsweptFlag = 256
+
 -- "bitmaps: 64 × P words of 64 bits"
 abbrev pub bitmapWords : ℕ
 bitmapWords = 64

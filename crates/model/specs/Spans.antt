@@ -4,7 +4,7 @@ use mathlib.Core.Bool.{Bool, _&&_, not, cond}
 use mathlib.Core.List.{List}
 use lib.ListN.{getD, set}
 use Rattle.model.specs.Bounded.{_==_, _<?_, _≤?_, firstBelow, writeRun}
-use Rattle.model.specs.Memory.{Heap, entryNumbers, pageOf, firstWord}
+use Rattle.model.specs.Memory.{Heap, entryNumbers, unsweptFlag, pageOf, firstWord}
 use Rattle.model.specs.Classes.{elementWordsOf, elementsOf}
 use Rattle.model.specs.Bitmaps.{is, allocated, marked, pointer}
 
@@ -49,10 +49,6 @@ spanPage s n kind g = record { owner = s + 1; count = cond (g == s) n 0; kind = 
 -- a span starts at page s
 abbrev pub startsSpan : List ℕ → ℕ → Bool
 startsSpan t s = owner t s == s + 1
-
--- "plus 256 in the kind if the span is unswept"
-abbrev pub unsweptFlag : ℕ
-unsweptFlag = 256
 
 abbrev pub isUnswept : List ℕ → ℕ → Bool
 isUnswept t s = unsweptFlag ≤? kindEntry t s

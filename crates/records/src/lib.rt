@@ -6,7 +6,7 @@ ghost use Prim.Native.Nat.{ℕ};
 ghost use Rattle.model.specs.Memory.{lent};
 ghost use Rattle.model.specs.Answers.{Meets};
 ghost use Rattle.model.specs.Records.{load, store, put, get, storeGlobal};
-ghost use Rattle.model.proofs.Facts.{Audited};
+ghost use Rattle.model.specs.Facts.{Audited};
 ghost use Rattle.fields.specs.Needs.{Rooted};
 use model::Answer;
 

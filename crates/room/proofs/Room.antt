@@ -16,7 +16,8 @@ use Rattle.model.specs.Allocate.{freeElement, hasRoom, spanWithRoom, bestRun, s
 use Rattle.model.proofs.Tests.{is-true}
 use Rattle.model.proofs.Bounded.{first-props}
 use Rattle.model.proofs.Rules.{tests}
-use Rattle.model.proofs.Spans.{IsSpan, element-fits}
+use Rattle.model.specs.Facts.{IsSpan}
+use Rattle.model.proofs.Spans.{element-fits}
 use Rattle.model.proofs.Checks.{passes}
 use Rattle.model.proofs.Classes.{size-fits}
 use Rattle.spans.specs.Needs.{Searchable, Span}

@@ -14,7 +14,7 @@ use Rattle.model.specs.declared.Answer.{Answer}
 use Rattle.model.specs.declared.Answer.the-variants.{Refused, Value}
 use Rattle.model.proofs.Outcomes.{meets, refused}
 use Rattle.model.proofs.Checks.{orElse-iff, open-passed}
-use Rattle.model.proofs.Facts.{Audited}
+use Rattle.model.specs.Facts.{Audited}
 use Rattle.shading.specs.Needs.{Each, ShadesAll}
 use Rattle.shading.proofs.References.{reference-named, audited-tables}
 use Rattle.scanning.specs.Needs.{Scannable, Scans}

@@ -7,7 +7,7 @@ use Rattle.model.specs.Memory.{Heap, lent, rootWords, slotCount}
 use Rattle.model.specs.Answers.{Outcome, Meets}
 use Rattle.model.specs.Cycle.{scanOutcome}
 use Rattle.model.specs.declared.Answer.{Answer}
-use Rattle.model.proofs.Facts.{Audited}
+use Rattle.model.specs.Facts.{Audited}
 use Rattle.shading.specs.Needs.{Each}
 
 -- some arena makes them a heap that the audit passes

@@ -4,8 +4,8 @@ use mathlib.Core.List.{List}
 use mathlib.Core.Logic.{_≢_}
 use native.Mathlib.Omega.{arith}
 use Rattle.model.specs.Memory.{Heap, wordOf}
-use Rattle.model.proofs.Spans.{Spans}
-use Rattle.model.proofs.Facts.{Audited, Bits, Reference, named}
+use Rattle.model.specs.Facts.{Spans, Audited, Bits, Reference}
+use Rattle.model.proofs.Facts.{named}
 use Rattle.shading.specs.Needs.{Tables, Named}
 
 -- a reference that is not nil names a record

@@ -7,7 +7,8 @@ use lib.Dec.{T, ltb}
 use borrow.Author.Tests.{ltb-false}
 use mathlib.Core.List.{List}
 use Rattle.model.specs.Bounded.{firstBelow, someBelow}
-use Rattle.model.specs.Spans.{owner, kindEntry, startsSpan, isUnswept, unsweptFlag}
+use Rattle.model.specs.Spans.{owner, kindEntry, startsSpan, isUnswept}
+use Rattle.model.specs.Memory.{unsweptFlag}
 use Rattle.model.specs.Allocate.{someUnswept}
 use Rattle.model.specs.Cycle.{firstUnswept}
 use Rattle.model.proofs.Tests.{is-true, of-true, same-test, and-iff, eqb-iff, ltb-iff, leb-iff, clash}

@@ -3,8 +3,8 @@ use Prim.Native.Nat.{ℕ, _+_, _*_, _<_}
 use mathlib.Core.List.{List}
 use mathlib.Core.Path.{_≡_}
 use lib.ListN.{length}
-use Rattle.model.specs.Memory.{entryNumbers}
-use Rattle.model.specs.Spans.{owner, kindEntry, unsweptFlag}
+use Rattle.model.specs.Memory.{entryNumbers, unsweptFlag}
+use Rattle.model.specs.Spans.{owner, kindEntry}
 
 -- a span starts at page s of t
 pub record Starts (t : List ℕ) (s : ℕ) : Type 0 where

@@ -6,7 +6,7 @@ use lib.ListN.{length}
 use Rattle.model.specs.Memory.{maxPages, entryNumbers, bitmapWords}
 use Rattle.model.specs.Classes.{rows}
 use Rattle.model.specs.Spans.{classAt}
-use Rattle.model.proofs.Spans.{Spans, IsSpan}
+use Rattle.model.specs.Facts.{Spans, IsSpan}
 
 -- page s has an entry, with a class of the table
 pub record Entry (t : List ℕ) (s : ℕ) : Type 0 where

@@ -15,7 +15,7 @@ use Rattle.model.proofs.Tests.{is-true, of-true, of-false, and-iff, clash}
 use Rattle.model.proofs.Bounded.{First, within, within-true, within-high, first-props, run-none}
 use Rattle.model.proofs.Bitmaps.{Four, samePart, bit-in, part-run, run-length}
 use Rattle.model.proofs.Spans.{startIn, start-range, start-same, elements-apart, at-home, fits, whole}
-use Rattle.model.proofs.Facts.{bit}
+use Rattle.model.specs.Facts.{bit}
 use Rattle.bitrange.proofs.Runs.{run-append, run-cong}
 use Rattle.bitrange.proofs.Bits.{Fit, bits-ext, bits-at, bits-length, bits-fit}
 use Rattle.bitrange.proofs.Parts.{place-from, part-as-bits, part-constant}

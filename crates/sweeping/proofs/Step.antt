@@ -11,7 +11,7 @@ use Rattle.model.specs.Cycle.{firstUnswept, sweepStep}
 use Rattle.model.specs.declared.Answer.{Answer}
 use Rattle.model.specs.declared.Answer.the-variants.{Refused, Swept}
 use Rattle.model.proofs.Outcomes.{meets}
-use Rattle.model.proofs.Facts.{Audited}
+use Rattle.model.specs.Facts.{Audited}
 use Rattle.span_entries.proofs.Unswept.{unswept-at}
 use Rattle.sweeping.specs.Spans.{Sweepable, SweepsSpan}
 

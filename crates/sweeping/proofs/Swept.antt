@@ -16,7 +16,7 @@ use Rattle.model.specs.Cycle.{freedCount, nothingLeft, sweptTable, sweptBits}
 use Rattle.model.specs.declared.Answer.the-variants.{Swept}
 use Rattle.model.proofs.Tests.{is-true}
 use Rattle.model.proofs.Spans.{startIn, start-is, at-home, fits}
-use Rattle.model.proofs.Facts.{bit}
+use Rattle.model.specs.Facts.{bit}
 use Rattle.bitrange.proofs.Parts.{swept-parts, part-count}
 use Rattle.sweeping.specs.Spans.{Sweepable, SweepsSpan}
 use Rattle.sweeping.proofs.Counts.{count-elements, count-split, none-counted}

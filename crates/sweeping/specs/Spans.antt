@@ -9,8 +9,7 @@ use Rattle.model.specs.Spans.{pageCount}
 use Rattle.model.specs.Cycle.{freedCount, nothingLeft, sweptTable, sweptBits}
 use Rattle.model.specs.declared.Answer.{Answer}
 use Rattle.model.specs.declared.Answer.the-variants.{Swept}
-use Rattle.model.proofs.Spans.{Spans, IsSpan}
-use Rattle.model.proofs.Facts.{Bits}
+use Rattle.model.specs.Facts.{Spans, IsSpan, Bits}
 
 -- of buffers of p pages that pass the audit: a span starts at page s
 pub record Sweepable (p : ℕ) (t b : List ℕ) (s : ℕ) : Type 0 where

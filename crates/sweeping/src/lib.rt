@@ -9,7 +9,7 @@ ghost use Rattle.model.specs.Bitmaps.{bitIn, putBits, marked, pointer};
 ghost use Rattle.model.specs.Spans.{pageCount, elementStart, elementNumber};
 ghost use Rattle.model.specs.Answers.{Meets};
 ghost use Rattle.model.specs.Cycle.{sweptBits, sweepStep};
-ghost use Rattle.model.proofs.Facts.{Audited};
+ghost use Rattle.model.specs.Facts.{Audited};
 ghost use Rattle.sweeping.specs.Spans.{Sweepable, SweepsSpan};
 use model::Answer;
 use units::PAGE_BLOCKS;

@@ -1,9 +1,8 @@
 -- `answers::write_decimal` meets its contract. The measure is the number itself, which a division by 10 makes less.
-use Prim.Native.Nat.{_+_}
+use Prim.Native.Nat.{_+_, ℕ, _<_}
 use native.Mathlib.Omega.{arith}
 use Rattle.answers.proofs.Bytes.{decimal-digit, decimal-step, length-digit, length-step, then, byte}
 use borrow.Author.Needs.{needs}
-use Prim.Native.Nat.{ℕ, _<_}
 use borrow.Fn.Kinds.{In}
 use borrow.Fn.PlainCycle.{Measures, is, falls, and}
 use Rattle.answers.proofs.write_decimal.Reads as write-decimal

@@ -1,7 +1,7 @@
 -- The invariant: the scan spans that start below page s have references in the pointer words of their kept elements.
 use Rattle.audit_words.proofs.Contents.{each-span, every-span}
 use Rattle.audit_words.specs.Contents.{SpanContents}
-use Rattle.model.proofs.Spans.{IsSpan}
+use Rattle.model.specs.Facts.{IsSpan}
 use Rattle.model.proofs.Tests.{is-true, of-true, clash}
 use Rattle.model.specs.Spans.{isScan}
 use borrow.Author.Count.{below-none, below-more}

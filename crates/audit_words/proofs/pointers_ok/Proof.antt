@@ -1,7 +1,7 @@
 -- The invariant: the words below f are pointers and hold references.
 use Rattle.audit_words.proofs.References.{pointer-is}
 use Rattle.audit_words.proofs.Contents.{stopped}
-use Rattle.model.proofs.Facts.{Reference, bit}
+use Rattle.model.specs.Facts.{Reference, bit}
 use Rattle.model.proofs.Tests.{is-true}
 use Rattle.model.specs.Bitmaps.{pointer}
 use borrow.Author.Tests.{not-true, not-false}
