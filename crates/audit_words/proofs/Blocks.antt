@@ -18,7 +18,7 @@ use Rattle.model.proofs.Bounded.{First}
 use Rattle.model.proofs.Bitmaps.{bit-below, bit-none, bit-in, word-ext, with-bit-of}
 use Rattle.model.specs.Facts.{IsSpan, Reference, bit, keptAt}
 use Rattle.model.proofs.Spans.{at-home, round, whole}
-use Rattle.model.proofs.Facts.{kept-allocated}
+use Rattle.model.proofs.Named.{kept-allocated}
 use Rattle.bitmap.proofs.Bits.{trailing-first}
 use Rattle.audit_words.specs.Contents.{Filled, Block, Blocks, SpanContents}
 

@@ -14,7 +14,8 @@ use Rattle.model.proofs.Tests.{is-true, of-true, clash}
 use Rattle.model.proofs.Bounded.{first-props}
 use Rattle.model.specs.Facts.{IsSpan, Element, Reference, bit, keptAt}
 use Rattle.model.proofs.Spans.{at-home, span-of, in-span, own-word, round, whole, fits}
-use Rattle.model.proofs.Facts.{kept-allocated, no-pointer}
+use Rattle.model.proofs.Named.{kept-allocated}
+use Rattle.model.proofs.Facts.{no-pointer}
 use Rattle.audit_words.specs.Contents.{Filled, At, Pointers, SpanContents, Contents, Searched, Below, keptFrom}
 use Rattle.audit_words.proofs.References.{kept-is, from-bound}
 

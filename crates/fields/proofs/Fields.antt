@@ -17,7 +17,8 @@ use Rattle.model.proofs.Tests.{clash}
 use Rattle.model.proofs.Bounded.{first-props}
 use Rattle.model.proofs.Spans.{span-of, whole}
 use Rattle.model.specs.Facts.{Audited, bit}
-use Rattle.model.proofs.Facts.{no-pointer, named}
+use Rattle.model.proofs.Facts.{no-pointer}
+use Rattle.model.proofs.Named.{named}
 use Rattle.shading.proofs.References.{audited-tables}
 use Rattle.fields.specs.Needs.{Entries, Record, Rooted}
 

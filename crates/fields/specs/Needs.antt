@@ -3,7 +3,7 @@ use Prim.Native.Nat.{ℕ, _+_, _*_, _<_, _≤_}
 use mathlib.Core.List.{List}
 use mathlib.Core.Path.{_≡_}
 use lib.ListN.{length, getD}
-use Rattle.model.specs.Memory.{Heap, lent, maxPages, pageWords, entryNumbers, rootWords, stackCount, slotCount, firstState, pageOf, slotAt, recordOf}
+use Rattle.model.specs.Memory.{Heap, lent, maxPages, pageWords, entryNumbers, rootWords, stackCount, slotCount, firstState, pageOf, slotAt, wordOf}
 use Rattle.model.specs.Spans.{spanOf, classAt, pageCount}
 use Rattle.model.specs.Classes.{rows}
 use Rattle.model.specs.Facts.{Spans, Element, Bits, Reference}
@@ -28,7 +28,7 @@ pub record Field (r : List ℕ) (s j f : ℕ) : Type 0 where
   pub roots : length r ≡ rootWords
   pub stack : s < stackCount
   pub slot : j < slotCount
-  pub word : recordOf (getD r (slotAt s j) 0) + f < pageWords * maxPages
+  pub word : wordOf (getD r (slotAt s j) 0) + f < pageWords * maxPages
 
 -- all that the audit says of the page table, the bitmaps and the roots
 pub record Rooted (p : ℕ) (t b r : List ℕ) : Type 0 where

@@ -30,7 +30,8 @@ use Rattle.model.proofs.Rules.{tests}
 use Rattle.model.specs.Facts.{IsSpan, Audited}
 use Rattle.model.proofs.Spans.{fits}
 use Rattle.model.proofs.Effects.{start-is, scan-stack-is}
-use Rattle.model.proofs.Facts.{reference-there, not-unswept, swept-all, pointer-word}
+use Rattle.model.proofs.Named.{reference-there}
+use Rattle.model.proofs.Facts.{not-unswept, swept-all, pointer-word}
 use Rattle.model.proofs.Checks.{passes, orElse-iff, OpenStack, open-passed, Finishes, finish-passed}
 use Rattle.keeps.proofs.Refusals.{given-small, orElse-small, finish-small}
 use Rattle.keeps.proofs.Roots.{started, started-kept, ended-kept}

@@ -16,7 +16,7 @@ use Rattle.marking.proofs.Simulation.{nil-or-live}
 use Rattle.marking.specs.Ledger.{Ledger}
 use Rattle.marking.proofs.Agreement.{Agrees}
 use Rattle.model.specs.Bounded.{firstBelow}
-use Rattle.model.specs.Memory.{Heap, withTable, setRoot, wordOf, addressOf, phase, stackCount, slotCount, globalCount, firstGlobal, firstState, globalsStateAt, phaseAt, pageWords, unsweptFlag}
+use Rattle.model.specs.Memory.{Heap, withTable, setRoot, phase, stackCount, slotCount, globalCount, firstGlobal, firstState, globalsStateAt, phaseAt, pageWords, unsweptFlag}
 use Rattle.model.specs.Bitmaps.{allocated, marked, pointer, is}
 use Rattle.model.specs.Spans.{owner, pageCount, kindEntry, elementWords, spanOf, elementOf, kept, putPages}
 use Rattle.model.specs.Cycle.{unsweptPage}
@@ -27,6 +27,7 @@ use Rattle.model.specs.Facts.{Spans, GoodEntry, Element, Audited, Bits, Referen
 use Rattle.model.proofs.Spans.{span-of, in-span, at-home, round}
 use Rattle.model.proofs.Facts.{no-pointer}
 use Rattle.model.proofs.Checks.{Finishes}
+use Rattle.model.proofs.Named.{address-refers}
 use Rattle.keeps.proofs.Roots.{root-at, root-other}
 use Rattle.keeps.proofs.Tables.{Same, Like, like, like-scan, like-words, bits-like}
 use Rattle.history.proofs.View.{view, phaseOf, lateAt, scansAt, wordsAt, runFrom, states, colours-eq, heap-eq, slots-same, globals-same, states-same}
@@ -183,16 +184,13 @@ module _ (h : Heap) {L : Ledger} {S : State} {Y : Layout} (F : Spans (h .pages) 
   unfolding view
   keep x l = R .represents .kept x l ∙ ap (λ b. cond b (is marked h (Y .at x)) true) (late-is (Y .at x) (on x l))
 
-  address-refers : (x : ℕ) → T (S .kept x) → Reference P t′ (h .bits) (address Y x)
-  address-refers x k = go (nil-or-live (R .invariant) x k)
+  node-refers : (x : ℕ) → T (S .kept x) → Reference P t′ (h .bits) (address Y x)
+  node-refers x k = go (nil-or-live (R .invariant) x k)
     where
       go : ((x ≡ 0) ⊎ Live (S .allocated) x) → Reference P t′ (h .bits) (address Y x)
       go (inl e) = inl (rw e (address-nil Y))
-      go (inr l) = inr (rw (address-live Y x (l .0)) (omega arith), rw (address-live Y x (l .0), back (Y .at x)) (there (unsweptAt t′ (Y .at x)) (rw (keep x l) at k)))
+      go (inr l) = rw (address-live Y x (l .0)) (address-refers P t′ (h .bits) (Y .at x) (there (unsweptAt t′ (Y .at x)) (rw (keep x l) at k)))
         where
-          back : (w : ℕ) → wordOf (addressOf w) ≡ w
-          back w = omega arith
-
           there : (b : Bool) → T (cond b (is marked h (Y .at x)) true) → T (cond b (is marked h (Y .at x)) (is allocated h (Y .at x)))
           there true m = m
           there false m = on x l
@@ -209,12 +207,12 @@ module _ (h : Heap) {L : Ledger} {S : State} {Y : Layout} (F : Spans (h .pages) 
           let l′ = ltb-true x firstGlobal e in
           let z : slotCount * (x / slotCount) + x % slotCount ≡ x = omega arith in
           let s = rw (lt-ltb (x / slotCount) stackCount (omega arith), lt-ltb (x % slotCount) slotCount (omega arith), z) at (R .represents .words .slot (x / slotCount) (x % slotCount)) in
-          rw s (address-refers (S .graph .slot (x / slotCount) (x % slotCount)) (R .invariant .keptClosed .root (x / slotCount) (x % slotCount)))
+          rw s (node-refers (S .graph .slot (x / slotCount) (x % slotCount)) (R .invariant .keptClosed .root (x / slotCount) (x % slotCount)))
       root x l false e =
           let l′ = ltb-false x firstGlobal e in
           let z : firstGlobal + (x - firstGlobal) ≡ x = omega arith in
           let s = rw (lt-ltb (x - firstGlobal) globalCount (omega arith), z) at (R .represents .words .global (x - firstGlobal)) in
-          rw s (address-refers (S .graph .field 0 (x - firstGlobal)) (R .invariant .keptClosed .step 0 (x - firstGlobal) (R .invariant .keptClosed .nil)))
+          rw s (node-refers (S .graph .field 0 (x - firstGlobal)) (R .invariant .keptClosed .step 0 (x - firstGlobal) (R .invariant .keptClosed .nil)))
 
       -- a pointer word lies in the run of its element
       run-in : (v w : ℕ) → T (is pointer h v) → (f : ℕ) → Element t′ w → f < elementWords t′ (spanOf t′ w) → w + f ≡ v →
@@ -246,4 +244,4 @@ module _ (h : Heap) {L : Ledger} {S : State} {Y : Layout} (F : Spans (h .pages) 
           let ar = rw (r .2) at (R .represents .placed .pointers (r .0) (r .1)) in
           let k = kept-x (r .0) (r .1) (rw (← (r .2)) at kp) in
           let e = rw (r .2, z) at (R .represents .words .pointer (r .0) (v - elementOf t′ v) (r .1) (rw (← ar) short)) in
-          rw e (address-refers (S .graph .field (r .0) (v - elementOf t′ v)) (R .invariant .keptClosed .step (r .0) (v - elementOf t′ v) k))
+          rw e (node-refers (S .graph .field (r .0) (v - elementOf t′ v)) (R .invariant .keptClosed .step (r .0) (v - elementOf t′ v) k))

@@ -25,7 +25,8 @@ use Rattle.model.proofs.Bitmaps.{bit-inside}
 use Rattle.model.proofs.Spans.{whole}
 use Rattle.model.proofs.Effects.{allocate-is}
 use Rattle.model.specs.Facts.{Audited}
-use Rattle.model.proofs.Facts.{named, reference-there, pointer-word}
+use Rattle.model.proofs.Named.{named, reference-there}
+use Rattle.model.proofs.Facts.{pointer-word}
 use Rattle.model.proofs.Checks.{passes, open-passed, slot-passed, slots-passed, global-passed, pointer-passed, number-passed, allocate-passed}
 use Rattle.history.specs.Ledger.{wordsOf}
 use Rattle.keeps.proofs.Refusals.{given-small, slot-small, slots-small, global-small, pointer-small, number-small, allocate-small}

@@ -13,7 +13,7 @@ use Rattle.marking.proofs.Updates.{update-is}
 use Rattle.marking.specs.WordHeap.{marking, ColourBits, shadeBits, shadeAllBits, heapStore, heapStoreGlobal, heapResetStack, heapScanStack, heapScanGlobals, heapMarkStep, stackScanned}
 use Rattle.model.specs.Memory.{Heap, withArena, withBits, setRoot, putWords, globalAt, stateAt, slot, global, word, phase, stackCount, slotCount, globalCount, firstGlobal, firstState, globalsStateAt, phaseAt, rootWords, pageWords}
 use Rattle.model.specs.Bitmaps.{Part, allocated, marked, gray, pointer, is, putBit}
-use Rattle.model.specs.Spans.{pointerCount}
+use Rattle.model.specs.Spans.{pointerCount, recordOf}
 use Rattle.model.specs.Shading.{shade, shadeAll, barrier}
 use Rattle.model.specs.Records.{emptied}
 use Rattle.model.specs.Cycle.{scan, scanRecord}
@@ -23,7 +23,8 @@ use Rattle.model.proofs.Words.{set-at, words-at, words-length}
 use Rattle.model.proofs.Bitmaps.{Four, samePart, part-at, part-length}
 use Rattle.model.proofs.Effects.{barrier-is}
 use Rattle.model.specs.Facts.{Audited, bit}
-use Rattle.model.proofs.Facts.{four, There}
+use Rattle.model.proofs.Facts.{four}
+use Rattle.model.proofs.Named.{There}
 use Rattle.model.proofs.Shading.{shade-length, shade-marked, shade-gray, shade-other, all-four, all-other, all-suc, all-zero}
 use Rattle.keeps.proofs.Roots.{root-at, root-other, emptied-at}
 use Rattle.history.proofs.View.{view, phaseOf, scansAt, wordsAt, runFrom, elementsOf, coloursOf, slotsOf, globalsOf, states, colours-eq, heap-eq, marking-is, slots-same, globals-same, states-same, state-set}
@@ -85,22 +86,22 @@ emptied-view {h} F s n b l e2 e0 = heap-eq refl refl refl refl
     globs g false e = refl
 
 -- one value shaded
-pub shade-view : (P : ℕ) (t : List ℕ) (v : ℕ) (b : List ℕ) → There P v → Four (pageWords * P) b →
-    (r : List ℕ) → coloursOf P (shade P t v b) r ≡ shadeBits (scansAt t) v (coloursOf P b r)
+pub shade-view : (P : ℕ) (t : List ℕ) (v : ℕ) (b : List ℕ) → There P t v → Four (pageWords * P) b →
+    (r : List ℕ) → coloursOf P (shade P t v b) r ≡ shadeBits (scansAt t) (recordOf t) v (coloursOf P b r)
 unfolding shadeBits scansAt
 shade-view P t v b h f r = colours-eq (fun-ext (shade-marked P t v b h f)) (fun-ext (shade-gray P t v b h f)) refl refl
 
 -- many values shaded
-pub all-view : (P : ℕ) (t : List ℕ) (value : ℕ → ℕ) (b : List ℕ) → Four (pageWords * P) b → (n : ℕ) → ((k : ℕ) → k < n → There P (value k)) → (r : List ℕ) →
-    coloursOf P (shadeAll P t n value b) r ≡ shadeAllBits (scansAt t) value n (coloursOf P b r)
+pub all-view : (P : ℕ) (t : List ℕ) (value : ℕ → ℕ) (b : List ℕ) → Four (pageWords * P) b → (n : ℕ) → ((k : ℕ) → k < n → There P t (value k)) → (r : List ℕ) →
+    coloursOf P (shadeAll P t n value b) r ≡ shadeAllBits (scansAt t) (recordOf t) value n (coloursOf P b r)
 unfolding shadeAllBits
 all-view P t value b f zero h r = rw (all-zero P t value b)
 all-view P t value b f (suc n) h r =
     rw (all-suc P t n value b) (shade-view P t (value n) (shadeAll P t n value b) (h n (omega arith)) (all-four P t value b f n (λ k l. h k (omega arith))) r
-    ∙ ap (shadeBits (scansAt t) (value n)) (all-view P t value b f n (λ k l. h k (omega arith)) r))
+    ∙ ap (shadeBits (scansAt t) (recordOf t) (value n)) (all-view P t value b f n (λ k l. h k (omega arith)) r))
 
 -- the barrier: the colours, and what it leaves alone
-module _ {h : Heap} (F : Audited h) (old new : ℕ) (ho : There (h .pages) old) (hn : There (h .pages) new) where
+module _ {h : Heap} (F : Audited h) (old new : ℕ) (ho : There (h .pages) (h .table) old) (hn : There (h .pages) (h .table) new) where
   abbrev P : ℕ
   P = h .pages
 
@@ -118,19 +119,19 @@ module _ {h : Heap} (F : Audited h) (old new : ℕ) (ho : There (h .pages) old) 
       go false = refl
 
   pub barrier-view : (r : List ℕ) → coloursOf (h .pages) (h .bits) r ≡ coloursOf (h .pages) (h .bits) (h .roots) → coloursOf (h .pages) (barrier h old new) r ≡
-      cond (marking (phaseOf (phase h))) (shadeBits (scansAt (h .table)) new (shadeBits (scansAt (h .table)) old (coloursOf (h .pages) (h .bits) (h .roots))))
+      cond (marking (phaseOf (phase h))) (shadeBits (scansAt (h .table)) (recordOf (h .table)) new (shadeBits (scansAt (h .table)) (recordOf (h .table)) old (coloursOf (h .pages) (h .bits) (h .roots))))
       (coloursOf (h .pages) (h .bits) (h .roots))
   barrier-view r same = rw (barrier-is h old new, marking-is (phase h)) (go (eqb (phase h) 1))
     where
       go : (b : Bool) → coloursOf P (cond b (shade P (h .table) new first) (h .bits)) r ≡
-          cond b (shadeBits (scansAt (h .table)) new (shadeBits (scansAt (h .table)) old (coloursOf P (h .bits) (h .roots)))) (coloursOf P (h .bits) (h .roots))
+          cond b (shadeBits (scansAt (h .table)) (recordOf (h .table)) new (shadeBits (scansAt (h .table)) (recordOf (h .table)) old (coloursOf P (h .bits) (h .roots)))) (coloursOf P (h .bits) (h .roots))
       go true = shade-view P (h .table) new first hn four′ r ∙
-          ap (shadeBits (scansAt (h .table)) new) (shade-view P (h .table) old (h .bits) ho (four h (F .sized)) r ∙
-          ap (shadeBits (scansAt (h .table)) old) same)
+          ap (shadeBits (scansAt (h .table)) (recordOf (h .table)) new) (shade-view P (h .table) old (h .bits) ho (four h (F .sized)) r ∙
+          ap (shadeBits (scansAt (h .table)) (recordOf (h .table)) old) same)
       go false = same
 
 -- store to a record
-pub store-view : {h : Heap} → Audited h → (w v : ℕ) → w < pageWords * h .pages → There (h .pages) v → There (h .pages) (word h w) →
+pub store-view : {h : Heap} → Audited h → (w v : ℕ) → w < pageWords * h .pages → There (h .pages) (h .table) v → There (h .pages) (h .table) (word h w) →
     view (withArena (set (h .arena) w v) (withBits (barrier h (word h w) v) h)) ≡ heapStore w v (view h)
 unfolding view heapStore
 store-view {h} F w v l k o = heap-eq
@@ -139,7 +140,7 @@ store-view {h} F w v l k o = heap-eq
     refl (barrier-view F (word h w) v o k (h .roots) refl) refl refl refl refl
 
 -- store to a global
-pub store-global-view : {h : Heap} → Audited h → (g v : ℕ) → g < globalCount → There (h .pages) v → There (h .pages) (global h g) →
+pub store-global-view : {h : Heap} → Audited h → (g v : ℕ) → g < globalCount → There (h .pages) (h .table) v → There (h .pages) (h .table) (global h g) →
     view (setRoot (globalAt g) v (withBits (barrier h (global h g) v) h)) ≡ heapStoreGlobal g v (view h)
 unfolding view heapStoreGlobal
 store-global-view {h} F g v l k o = heap-eq refl
@@ -168,10 +169,10 @@ store-global-view {h} F g v l k o = heap-eq refl
     glob x false e = refl
 
 -- shadings of equal values
-all-cong : (sc : ℕ → Bool) (g k : ℕ → ℕ) (n : ℕ) (B : ColourBits) → ((i : ℕ) → i < n → g i ≡ k i) → shadeAllBits sc g n B ≡ shadeAllBits sc k n B
+all-cong : (sc : ℕ → Bool) (names : ℕ → ℕ) (g k : ℕ → ℕ) (n : ℕ) (B : ColourBits) → ((i : ℕ) → i < n → g i ≡ k i) → shadeAllBits sc names g n B ≡ shadeAllBits sc names k n B
 unfolding shadeAllBits
-all-cong sc g k zero B f = refl
-all-cong sc g k (suc n) B f = rw (f n (omega arith), all-cong sc g k n B (λ i l. f i (omega arith)))
+all-cong sc names g k zero B f = refl
+all-cong sc names g k (suc n) B f = rw (f n (omega arith), all-cong sc names g k n B (λ i l. f i (omega arith)))
 
 update-id : {X : Type 0} (f : ℕ → X) (s : ℕ) (v : X) → f s ≡ v → update f s v ≡ f
 update-id f s v e = fun-ext (λ x. rw (update-is f s v x) (go x (eqb x s) refl))
@@ -181,13 +182,13 @@ update-id f s v e = fun-ext (λ x. rw (update-is f s v x) (go x (eqb x s) refl))
     go x false p = refl
 
 -- scan a stack
-pub scan-stack-view : {h : Heap} → Audited h → (s : ℕ) → s < stackCount → eqb (getD (h .roots) (firstState + s) 0) 0 ≡ false → ((i : ℕ) → i < slotCount → There (h .pages) (slot h s i)) →
+pub scan-stack-view : {h : Heap} → Audited h → (s : ℕ) → s < stackCount → eqb (getD (h .roots) (firstState + s) 0) 0 ≡ false → ((i : ℕ) → i < slotCount → There (h .pages) (h .table) (slot h s i)) →
     view (scan slotCount (slot h s) (stateAt s) h) ≡ heapScanStack s (view h)
 unfolding view heapScanStack
 scan-stack-view {h} F s l op th = heap-eq refl (fun-ext (λ v. all-other P t (slot h s) (h .bits) f slotCount th allocated refl refl v))
     (ap (elementsOf t) (fun-ext (λ v. all-other P t (slot h s) (h .bits) f slotCount th pointer refl refl v))) refl
     (flagged ∙ ap (stackScanned s) (all-view P t (slot h s) (h .bits) f slotCount th (h .roots) ∙
-    all-cong (scansAt t) (slot h s) (slotsOf (h .roots) s) slotCount (coloursOf P (h .bits) (h .roots)) (λ i b. rw (lt-ltb s stackCount l, lt-ltb i slotCount b))))
+    all-cong (scansAt t) (recordOf t) (slot h s) (slotsOf (h .roots) s) slotCount (coloursOf P (h .bits) (h .roots)) (λ i b. rw (lt-ltb s stackCount l, lt-ltb i slotCount b))))
     (slots-same r (h .roots) (λ x b. rest x (omega arith)))
     (globals-same r (h .roots) (λ x b c. rest x (omega arith)))
     (state-set (λ x. not (eqb x 0)) (h .roots) s 1 true (F .sized .roots) l refl ∙ update-id (states (λ x. not (eqb x 0)) (h .roots)) s true (rw (lt-ltb s stackCount l, op)))
@@ -215,12 +216,12 @@ scan-stack-view {h} F s l op th = heap-eq refl (fun-ext (λ v. all-other P t (sl
 abbrev flags : Bool → (ℕ → Bool) → ColourBits → ColourBits
 flags a b B = record { marked = B .marked; gray = B .gray; grayGlobals = a; grayStack = b }
 
-pub scan-globals-view : {h : Heap} → Audited h → ((i : ℕ) → i < globalCount → There (h .pages) (global h i)) → view (scan globalCount (global h) globalsStateAt h) ≡ heapScanGlobals globalCount (view h)
+pub scan-globals-view : {h : Heap} → Audited h → ((i : ℕ) → i < globalCount → There (h .pages) (h .table) (global h i)) → view (scan globalCount (global h) globalsStateAt h) ≡ heapScanGlobals globalCount (view h)
 unfolding view heapScanGlobals
 scan-globals-view {h} F th = heap-eq refl (fun-ext (λ v. all-other P t (global h) (h .bits) f globalCount th allocated refl refl v))
     (ap (elementsOf t) (fun-ext (λ v. all-other P t (global h) (h .bits) f globalCount th pointer refl refl v))) refl
-    (all-view P t (global h) (h .bits) f globalCount th r ∙ ap (shadeAllBits (scansAt t) (global h) globalCount) flagged
-    ∙ all-cong (scansAt t) (global h) (globalsOf (h .roots)) globalCount (flags false (states (λ x. eqb x 2) (h .roots)) (coloursOf P (h .bits) (h .roots)))
+    (all-view P t (global h) (h .bits) f globalCount th r ∙ ap (shadeAllBits (scansAt t) (recordOf t) (global h) globalCount) flagged
+    ∙ all-cong (scansAt t) (recordOf t) (global h) (globalsOf (h .roots)) globalCount (flags false (states (λ x. eqb x 2) (h .roots)) (coloursOf P (h .bits) (h .roots)))
     (λ i b. rw (lt-ltb i globalCount b)))
     (slots-same r (h .roots) (λ x b. rest x (omega arith)))
     (globals-same r (h .roots) (λ x b c. rest x (omega arith)))
@@ -246,12 +247,12 @@ scan-globals-view {h} F th = heap-eq refl (fun-ext (λ v. all-other P t (global 
     flagged = colours-eq refl refl (rw (root-at F globalsStateAt 1 (omega arith) globalsStateAt)) (states-same (λ x. eqb x 2) r (h .roots) (λ x b c. rest x (omega arith)))
 
 -- a mark step
-pub mark-view : {h : Heap} → Audited h → (w : ℕ) → w < pageWords * h .pages → ((f : ℕ) → f < pointerCount h w → There (h .pages) (word h (w + f))) →
+pub mark-view : {h : Heap} → Audited h → (w : ℕ) → w < pageWords * h .pages → ((f : ℕ) → f < pointerCount h w → There (h .pages) (h .table) (word h (w + f))) →
     view (withBits (scanRecord w h) h) ≡ heapMarkStep w (view h .elements .pointers w) (view h)
 unfolding view scanRecord heapMarkStep runFrom wordsAt
 mark-view {h} F w l th = heap-eq refl (fun-ext (λ v. all-other P t g b f n th allocated refl refl v ∙ out allocated refl v))
     (ap (elementsOf t) (fun-ext (λ v. all-other P t g b f n th pointer refl refl v ∙ out pointer refl v))) refl
-    (all-view P t g b f n th (h .roots) ∙ ap (shadeAllBits (scansAt t) g n) (colours-eq (fun-ext (λ v. out marked refl v)) gray′ refl refl))
+    (all-view P t g b f n th (h .roots) ∙ ap (shadeAllBits (scansAt t) (recordOf t) g n) (colours-eq (fun-ext (λ v. out marked refl v)) gray′ refl refl))
     refl refl refl refl
   where
     P : ℕ

@@ -9,7 +9,7 @@ use lib.ListN.{getD}
 use lib.Dec.{T, eqb, ltb, leb, ltb→lt, leb→le}
 use borrow.Author.Tests.{ltb-true, eqb-true, not-true}
 use Rattle.model.specs.Bounded.{firstBelow}
-use Rattle.model.specs.Memory.{Heap, withTable, wordOf, phase, state, firstWord, stackCount, slotCount, pageWords, unsweptFlag}
+use Rattle.model.specs.Memory.{Heap, withTable, phase, state, firstWord, stackCount, slotCount, pageWords, unsweptFlag}
 use Rattle.model.specs.Bitmaps.{allocated, is}
 use Rattle.model.specs.Classes.{classOf, kindOf, pagesFor, elementWordsOf}
 use Rattle.model.specs.Spans.{owner, kindEntry, isFree, elementWords, elements, elementStart, spanOf, elementOf, putPages, spanPage}
@@ -20,7 +20,7 @@ use Rattle.model.proofs.Classes.{Takes}
 use Rattle.model.proofs.Table.{pages-length}
 use Rattle.model.specs.Facts.{Spans, IsSpan, Sized, Audited, Bits, Phases, References, Reference, bit, scanAt, unsweptAt, keptAt}
 use Rattle.model.proofs.Effects.{room-is, room-words}
-use Rattle.model.proofs.Facts.{kept-allocated}
+use Rattle.model.proofs.Named.{kept-allocated, refers-over}
 use Rattle.keeps.proofs.Tables.{Chosen, Vacant, like-scan, like-words, like-element, carve-spans, carve-bits, carve-like, carve-unswept, carve-chosen, which, new-entry, used-same}
 use Rattle.keeps.proofs.Taken.{taken, taken-kept}
 
@@ -101,8 +101,7 @@ module _ {h : Heap} (F : Audited h) {r n kind : ℕ} (Q : Vacant (h .pages) (h .
       swept d x (inr e) = rw (used-same (F .sized .table) (F .spans) Q x (omega arith) .2) (F .phases .swept d x e)
 
   refers : (a : ℕ) → Reference (h .pages) t (h .bits) a → Reference (h .pages) u (h .bits) a
-  refers a (inl e) = inl e
-  refers a (inr f) = inr (f .0, kept-same t u (F .bits) flags (wordOf a) (f .1))
+  refers = refers-over (h .pages) t u (h .bits) (h .bits) (kept-same t u (F .bits) flags)
 
   references-u : References (withTable u h)
   references-u = record {

@@ -9,9 +9,9 @@ use native.Mathlib.Omega.{arith}
 use lib.ListN.{getD, set, length-set}
 use lib.Dec.{T, eqb, eqb→eq}
 use borrow.Author.Tests.{eq-eqb, eqb-true, eqb-false}
-use Rattle.model.specs.Memory.{Heap, withArena, withBits, setRoot, slot, global, root, word, wordOf, phase, stateAt, globalAt, stackCount, slotCount, globalCount, firstGlobal, firstState, globalsStateAt, pageWords}
+use Rattle.model.specs.Memory.{Heap, withArena, withBits, setRoot, slot, global, root, word, phase, stateAt, globalAt, stackCount, slotCount, globalCount, firstGlobal, firstState, globalsStateAt, pageWords}
 use Rattle.model.specs.Bitmaps.{Part, allocated, marked, gray, pointer, is, putBit}
-use Rattle.model.specs.Spans.{elementOf, spanOf, kept, pointerCount, elementWords}
+use Rattle.model.specs.Spans.{elementOf, spanOf, kept, pointerCount, elementWords, recordOf}
 use Rattle.model.specs.Shading.{shade, shadeAll, barrier}
 use Rattle.model.specs.Cycle.{scan, scanRecord}
 use Rattle.model.proofs.Tests.{is-true, of-true, and-iff, or-iff}
@@ -19,7 +19,8 @@ use Rattle.model.proofs.Words.{set-at}
 use Rattle.model.proofs.Bitmaps.{samePart, part-at, part-length, bit-inside}
 use Rattle.model.proofs.Effects.{barrier-is}
 use Rattle.model.specs.Facts.{Audited, bit, scanAt, unsweptAt, keptAt}
-use Rattle.model.proofs.Facts.{four, There, named, reference-there, not-unswept, pointer-word, no-pointer}
+use Rattle.model.proofs.Facts.{four, not-unswept, pointer-word, no-pointer}
+use Rattle.model.proofs.Named.{There, named, reference-there, refers-over}
 use Rattle.model.proofs.Shading.{shade-length, shade-marked, shade-gray, shade-other}
 use Rattle.keeps.proofs.Roots.{Refers, global-kept, scanned-kept, globals-kept}
 
@@ -34,7 +35,7 @@ module _ {h : Heap} (F : Audited h) (one : phase h ≡ 1) (v : ℕ) (r : Refers 
   abbrev b′ : List ℕ
   b′ = shade (h .pages) (h .table) v (h .bits)
 
-  there : There P v
+  there : There P t v
   there = reference-there (F .bits) v r
 
   a-same : (w : ℕ) → bit P allocated b′ w ≡ is allocated h w
@@ -50,25 +51,24 @@ module _ {h : Heap} (F : Audited h) (one : phase h ≡ 1) (v : ℕ) (r : Refers 
   kept-same w = rw (on-time w) (a-same w)
 
   -- the shaded record is allocated
-  target : v ≢ 0 → T (is allocated h (wordOf v))
+  target : v ≢ 0 → T (is allocated h (recordOf t v))
   target d = named (F .bits) v d r .0
 
   pub shade-refers : (x : ℕ) → Refers h x → Refers (withBits (shade (h .pages) (h .table) v (h .bits)) h) x
-  shade-refers x (inl e) = inl e
-  shade-refers x (inr f) = inr (f .0, rw (kept-same (wordOf x)) (f .1))
+  shade-refers = refers-over P t t (h .bits) b′ (λ w k. rw (kept-same w) k)
 
-  m-is : (w : ℕ) → bit P marked b′ w ≡ cond (eqb v 0) (is marked h w) (is marked h w || eqb w (wordOf v))
+  m-is : (w : ℕ) → bit P marked b′ w ≡ cond (eqb v 0) (is marked h w) (is marked h w || eqb w (recordOf t v))
   m-is = shade-marked P t v (h .bits) there (four h (F .sized))
 
-  g-is : (w : ℕ) → bit P gray b′ w ≡ cond (eqb v 0) (is gray h w) (is gray h w || (eqb w (wordOf v) && (not (is marked h w) && scanAt t w)))
+  g-is : (w : ℕ) → bit P gray b′ w ≡ cond (eqb v 0) (is gray h w) (is gray h w || (eqb w (recordOf t v) && (not (is marked h w) && scanAt t w)))
   g-is = shade-gray P t v (h .bits) there (four h (F .sized))
 
   more-m : (w : ℕ) → T (is marked h w) → T (bit P marked b′ w)
   more-m w m = rw (m-is w) (go (eqb v 0))
     where
-      go : (z : Bool) → T (cond z (is marked h w) (is marked h w || eqb w (wordOf v)))
+      go : (z : Bool) → T (cond z (is marked h w) (is marked h w || eqb w (recordOf t v)))
       go true = m
-      go false = or-iff (is marked h w) (eqb w (wordOf v)) .1 (inl m)
+      go false = or-iff (is marked h w) (eqb w (recordOf t v)) .1 (inl m)
 
   pub shade-kept : Audited (withBits (shade (h .pages) (h .table) v (h .bits)) h)
   shade-kept = record {
@@ -103,27 +103,27 @@ module _ {h : Heap} (F : Audited h) (one : phase h ≡ 1) (v : ℕ) (r : Refers 
     occupied = λ s e. let f = F .occupied s e in (f .0, rw (a-same (f .0)) (f .1), f .2);
   }
     where
-      marks : (w : ℕ) (z : Bool) → eqb v 0 ≡ z → T (cond z (is marked h w) (is marked h w || eqb w (wordOf v))) → T (is allocated h w)
+      marks : (w : ℕ) (z : Bool) → eqb v 0 ≡ z → T (cond z (is marked h w) (is marked h w || eqb w (recordOf t v))) → T (is allocated h w)
       marks w true e x = F .bits .marks w x
-      marks w false e x = go (or-iff (is marked h w) (eqb w (wordOf v)) .0 x)
+      marks w false e x = go (or-iff (is marked h w) (eqb w (recordOf t v)) .0 x)
         where
-          go : (T (is marked h w) ⊎ T (eqb w (wordOf v))) → T (is allocated h w)
+          go : (T (is marked h w) ⊎ T (eqb w (recordOf t v))) → T (is allocated h w)
           go (inl m) = F .bits .marks w m
-          go (inr q) = rw (eqb→eq w (wordOf v) q) (target (eqb-false v 0 e))
+          go (inr q) = rw (eqb→eq w (recordOf t v) q) (target (eqb-false v 0 e))
 
-      hit : (w : ℕ) → eqb v 0 ≡ false → w ≡ wordOf v → T (bit P marked b′ w)
-      hit w e q = rw (m-is w, e, q, eq-eqb (wordOf v) (wordOf v) refl) (is-true _ (or-true (is marked h (wordOf v))))
+      hit : (w : ℕ) → eqb v 0 ≡ false → w ≡ recordOf t v → T (bit P marked b′ w)
+      hit w e q = rw (m-is w, e, q, eq-eqb (recordOf t v) (recordOf t v) refl) (is-true _ (or-true (is marked h (recordOf t v))))
 
-      grays : (w : ℕ) (z : Bool) → eqb v 0 ≡ z → T (cond z (is gray h w) (is gray h w || (eqb w (wordOf v) && (not (is marked h w) && scanAt t w)))) →
+      grays : (w : ℕ) (z : Bool) → eqb v 0 ≡ z → T (cond z (is gray h w) (is gray h w || (eqb w (recordOf t v) && (not (is marked h w) && scanAt t w)))) →
           T (bit P marked b′ w) × T (scanAt t w)
       grays w true e x = let f = F .bits .grays w x in (more-m w (f .0), f .1)
-      grays w false e x = go (or-iff (is gray h w) (eqb w (wordOf v) && (not (is marked h w) && scanAt t w)) .0 x)
+      grays w false e x = go (or-iff (is gray h w) (eqb w (recordOf t v) && (not (is marked h w) && scanAt t w)) .0 x)
         where
-          go : (T (is gray h w) ⊎ T (eqb w (wordOf v) && (not (is marked h w) && scanAt t w))) → T (bit P marked b′ w) × T (scanAt t w)
+          go : (T (is gray h w) ⊎ T (eqb w (recordOf t v) && (not (is marked h w) && scanAt t w))) → T (bit P marked b′ w) × T (scanAt t w)
           go (inl g) = let f = F .bits .grays w g in (more-m w (f .0), f .1)
           go (inr q) =
-              let y = and-iff (eqb w (wordOf v)) (not (is marked h w) && scanAt t w) .0 q in
-              (hit w e (eqb→eq w (wordOf v) (y .0)), and-iff (not (is marked h w)) (scanAt t w) .0 (y .1) .1)
+              let y = and-iff (eqb w (recordOf t v)) (not (is marked h w) && scanAt t w) .0 q in
+              (hit w e (eqb→eq w (recordOf t v) (y .0)), and-iff (not (is marked h w)) (scanAt t w) .0 (y .1) .1)
 
 -- a word of the arena is set: the value is a reference, if a pointer stands there
 pub arena-kept : {h : Heap} → Audited h → (w v : ℕ) → w < pageWords * h .pages → (T (is pointer h w) → Refers h v) → Audited (withArena (set (h .arena) w v) h)
@@ -252,8 +252,7 @@ ungray-kept {h} F w l = (
     kept-is v = rw (same allocated refl v, same marked refl v)
 
     ref : (x : ℕ) → Refers h x → Refers (withBits (putBit (pageWords * h .pages) gray w false (h .bits)) h) x
-    ref x (inl e) = inl e
-    ref x (inr f) = inr (f .0, rw (kept-is (wordOf x)) (f .1))
+    ref = refers-over (h .pages) (h .table) (h .table) (h .bits) b (λ v k. rw (kept-is v) k)
 
 -- a mark step on the gray record at word w
 pub mark-kept : {h : Heap} → Audited h → phase h ≡ 1 → (w : ℕ) → T (is gray h w) → Audited (withBits (scanRecord w h) h)

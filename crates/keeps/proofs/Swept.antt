@@ -8,7 +8,7 @@ use native.Mathlib.Omega.{arith}
 use lib.ListN.{getD}
 use lib.Dec.{T, eqb}
 use borrow.Author.Tests.{lt-leb, le-leb, eq-eqb, eqb-true, eqb-false, not-false}
-use Rattle.model.specs.Memory.{Heap, wordOf, phase, pageWords, unsweptFlag}
+use Rattle.model.specs.Memory.{Heap, phase, pageWords, unsweptFlag}
 use Rattle.model.specs.Bitmaps.{Part, allocated, marked, gray, pointer, is}
 use Rattle.model.specs.Spans.{owner, pageCount, kindEntry, isFree, elementWords, elements, elementStart, elementNumber, spanOf, elementOf, kept}
 use Rattle.model.specs.Cycle.{sweptBits, sweptTable, nothingLeft}
@@ -18,7 +18,7 @@ use Rattle.model.proofs.Bitmaps.{samePart}
 use Rattle.model.specs.Facts.{IsSpan, Element, Audited, Bits, Phases, References, Reference, Occupied, bit, unsweptAt, keptAt}
 use Rattle.model.proofs.Spans.{startIn, start-same, span-of, in-span, at-home, spans-apart, element-word, round, whole, fits}
 use Rattle.model.proofs.Effects.{swept-at, swept-length}
-use Rattle.model.proofs.Facts.{kept-allocated}
+use Rattle.model.proofs.Named.{kept-allocated, refers-over}
 use Rattle.keeps.proofs.SweptTable.{within-no, scaled, swept, inside, low, own, outside, gone, stays, same-out, same-left, page-out, swept-spans, table-length}
 use Rattle.keeps.proofs.Tables.{Like, like, like-scan, like-element, like-in, like-first}
 
@@ -261,8 +261,7 @@ module _ {h : Heap} (F : Audited h) (s : ℕ) (span : IsSpan (h .table) s) (unsw
           rw (flag-is v (E .lies .used) (rw (stay-like v x .page) (E .lies .used)), at marked v, at allocated v) (by (q v) refl)
 
   swept-refers : (x : ℕ) → Reference P t (h .bits) x → Reference P u b′ x
-  swept-refers x (inl e) = inl e
-  swept-refers x (inr f) = inr (f .0, rw (kept-is (wordOf x)) (f .1))
+  swept-refers = refers-over P t u (h .bits) b′ (λ w k. rw (kept-is w) k)
 
   swept-references : References (swept s h)
   swept-references = record {

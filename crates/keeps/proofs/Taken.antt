@@ -8,7 +8,8 @@ use native.Mathlib.Omega.{arith}
 use lib.ListN.{getD, set, length-set}
 use lib.Dec.{T, eqb, ltb, eqb→eq, ltb→lt}
 use borrow.Author.Tests.{lt-ltb, lt-leb, eq-eqb, ne-eqb, eqb-true, eqb-false}
-use Rattle.model.specs.Memory.{Heap, lent, putWords, slotAt, addressOf, wordOf, phase, stackCount, slotCount, firstGlobal, firstState, globalsStateAt, phaseAt, pageWords, unsweptFlag}
+use Rattle.model.proofs.Named.{refers-over, address-refers}
+use Rattle.model.specs.Memory.{Heap, lent, putWords, slotAt, addressOf, phase, stackCount, slotCount, firstGlobal, firstState, globalsStateAt, phaseAt, pageWords, unsweptFlag}
 use Rattle.model.specs.Bitmaps.{Part, allocated, marked, gray, pointer, is}
 use Rattle.model.specs.Spans.{owner, pageCount, kindEntry, elementWords, elementStart, spanOf, elementOf, kept}
 use Rattle.model.specs.Allocate.{newBits}
@@ -219,8 +220,7 @@ module _ {h : Heap} (Z : Sized h) (F : Spans (h .pages) (h .table)) (C : Bits (h
       go false a = rw (taken-a v, ne-eqb v w d) at a
 
   refers-more : (a : ℕ) → Reference P t (h .bits) a → Reference P t b′ a
-  refers-more a (inl e) = inl e
-  refers-more a (inr f) = inr (f .0, kept-more (wordOf a) (f .1))
+  refers-more = refers-over P t t (h .bits) b′ kept-more
 
   -- the new element is kept
   new-kept : T (keptAt P t b′ w)
@@ -236,7 +236,7 @@ module _ {h : Heap} (Z : Sized h) (F : Spans (h .pages) (h .table)) (C : Bits (h
   }
     where
       root : (x : ℕ) → x < firstState → (c : Bool) → Reference P t b′ (cond c (addressOf w) (getD (h .roots) x 0))
-      root x l true = let e : wordOf (addressOf w) ≡ w = omega arith in inr (rw e, rw e new-kept)
+      root x l true = address-refers P t b′ w new-kept
       root x l false = refers-more (getD (h .roots) x 0) (H .root x l)
 
       ptr : (v : ℕ) → (((w ≤ v) × (v < w + p)) ⊎ T (is pointer h v)) → T (keptAt P t b′ (elementOf t v)) → Reference P t b′ (getD (after .arena) v 0)

@@ -13,7 +13,7 @@ use Rattle.marking.proofs.Graph.{Root, globals, inSlot, Reach}
 use Rattle.marking.proofs.Operations.{State}
 use Rattle.marking.proofs.Safety.{reach-kept}
 use Rattle.model.specs.Memory.{addressOf, wordOf}
-use Rattle.marking.specs.WordHeap.{WordHeap}
+use Rattle.marking.specs.WordHeap.{WordHeap, named}
 use Rattle.marking.proofs.Represents.{Layout, address, Live, address-live, word-address}
 use Rattle.marking.specs.Ledger.{Ledger, value, word, Reachable, stack, global, field}
 use Rattle.marking.proofs.Agreement.{Agrees}
@@ -101,8 +101,8 @@ module _ {H : WordHeap} {L : Ledger} {S : State} {Y : Layout} (R : Agrees H L S 
 
 -- what get answers
 pub got : {H : WordHeap} {L : Ledger} {S : State} {Y : Layout} → Agrees H L S Y → (s j f : ℕ) →
-    0 < H .slots s j → H .elements .pointers (wordOf (H .slots s j)) ≤ f → f < H .elements .words (wordOf (H .slots s j)) →
-    H .arena (wordOf (H .slots s j) + f) ≡ word L (L .slot s j) f
+    0 < H .slots s j → H .elements .pointers (named (H .elements) (H .slots s j)) ≤ f → f < H .elements .words (named (H .elements) (H .slots s j)) →
+    H .arena (named (H .elements) (H .slots s j) + f) ≡ word L (L .slot s j) f
 unfolding word
 got {H} {L} {S} {Y} R s j f z b c =
     let r = slot-record R s j z in

@@ -8,11 +8,11 @@ use native.Mathlib.Omega.{arith}
 use lib.Dec.{T, eqb, ltb, eqb→eq}
 use Rattle.marking.specs.Updates.{update}
 use Rattle.marking.proofs.Updates.{update-other, update-is, added-only, test, of-true, differ, is-true}
-use Rattle.model.specs.Memory.{slotCount, globalCount, addressOf, wordOf}
+use Rattle.model.specs.Memory.{slotCount, globalCount, addressOf}
 use Rattle.marking.proofs.Graph.{setSlot, setField, emptyStack, birth}
 use Rattle.marking.proofs.Operations
 use Rattle.marking.proofs.Operations.{State, Operation, Held, Source, Allowed, perform, markAt, operationEffect}
-use Rattle.marking.specs.WordHeap.{Phase, off, mark, sweep, marking, WordHeap, LegalColours, Elements, Alike, heapAssign, heapStore, heapStoreGlobal, heapPut, heapResetStack, heapStart, heapScanStack, heapScanGlobals, heapMarkStep, heapFinish, heapSweep, heapEndCycle, heapAllocate}
+use Rattle.marking.specs.WordHeap.{Phase, off, mark, sweep, marking, WordHeap, LegalColours, Elements, Alike, heapAssign, heapStore, heapStoreGlobal, heapPut, heapResetStack, heapStart, heapScanStack, heapScanGlobals, heapMarkStep, heapFinish, heapSweep, heapEndCycle, heapAllocate, named}
 use Rattle.marking.proofs.Safety.{perform-keeps}
 use Rattle.marking.proofs.Represents.{Layout, address, Live, Represents, address-nil, word-address}
 use Rattle.marking.proofs.Simulation
@@ -38,11 +38,11 @@ pub record AbstractStep (e : Event) (H : WordHeap) (L : Ledger) (S : State) : Ty
 
 module _ {H : WordHeap} {L : Ledger} {S : State} {Y : Layout} (R : Agrees H L S Y) where
   pub slot-record : (s j : ℕ) → 0 < H .slots s j →
-      Live (S .allocated) (S .graph .slot s j) × (wordOf (H .slots s j) ≡ Y .at (S .graph .slot s j))
+      Live (S .allocated) (S .graph .slot s j) × (named (H .elements) (H .slots s j) ≡ Y .at (S .graph .slot s j))
   slot-record s j h = go (nil-or-live (R .invariant) (S .graph .slot s j) (R .invariant .keptClosed .root s j))
     where
       go : ((S .graph .slot s j ≡ 0) ⊎ Live (S .allocated) (S .graph .slot s j)) →
-          Live (S .allocated) (S .graph .slot s j) × (wordOf (H .slots s j) ≡ Y .at (S .graph .slot s j))
+          Live (S .allocated) (S .graph .slot s j) × (named (H .elements) (H .slots s j) ≡ Y .at (S .graph .slot s j))
       go (inl e) = absurd (omega (arith, rw (e, address-nil Y) at (R .represents .words .slot s j)))
       go (inr l) = (l, rw (R .represents .words .slot s j) (word-address Y (S .graph .slot s j) (l .0)))
 
@@ -76,8 +76,8 @@ module _ {H : WordHeap} {L : Ledger} {S : State} {Y : Layout} (R : Agrees H L S 
       (step-assign A s i (S .graph .field 0 g) (Operations.field Operations.nil g) o h)
 
   pub step-load : (s i j f : ℕ) → LegalColours H → T (H .opened s) → i < slotCount → 0 < H .slots s j →
-      f < H .elements .pointers (wordOf (H .slots s j)) →
-      Becomes (Operations.assign s i (S .graph .field (S .graph .slot s j) f)) (heapAssign s i (H .arena (wordOf (H .slots s j) + f)) H) (withSlot s i (L .pointer (L .slot s j) f) L) S
+      f < H .elements .pointers (named (H .elements) (H .slots s j)) →
+      Becomes (Operations.assign s i (S .graph .field (S .graph .slot s j) f)) (heapAssign s i (H .arena (named (H .elements) (H .slots s j) + f)) H) (withSlot s i (L .pointer (L .slot s j) f) L) S
   step-load s i j f A o h z b =
       let r = slot-record s j z in
       let b′ = rw (r .1, R .represents .placed .pointers (S .graph .slot s j) (r .0)) at b in
@@ -96,8 +96,8 @@ module _ {H : WordHeap} {L : Ledger} {S : State} {Y : Layout} (R : Agrees H L S 
     last = R .last;
   }
 
-  pub step-store : (s j f k : ℕ) → LegalColours H → 0 < H .slots s j → f < H .elements .pointers (wordOf (H .slots s j)) →
-      Becomes (Operations.store s (S .graph .slot s j) f (S .graph .slot s k)) (heapStore (wordOf (H .slots s j) + f) (H .slots s k) H) (withPointer (L .slot s j) f (L .slot s k) L) S
+  pub step-store : (s j f k : ℕ) → LegalColours H → 0 < H .slots s j → f < H .elements .pointers (named (H .elements) (H .slots s j)) →
+      Becomes (Operations.store s (S .graph .slot s j) f (S .graph .slot s k)) (heapStore (named (H .elements) (H .slots s j) + f) (H .slots s k) H) (withPointer (L .slot s j) f (L .slot s k) L) S
   step-store s j f k A z b =
       let r = slot-record s j z in
       let b′ = rw (r .1, R .represents .placed .pointers (S .graph .slot s j) (r .0)) at b in
@@ -115,9 +115,9 @@ module _ {H : WordHeap} {L : Ledger} {S : State} {Y : Layout} (R : Agrees H L S 
     last = R .last;
   }
 
-  pub step-put : (s j f v : ℕ) → LegalColours H → 0 < H .slots s j → H .elements .pointers (wordOf (H .slots s j)) ≤ f →
-      f < H .elements .words (wordOf (H .slots s j)) →
-      Becomes Operations.idle (heapPut (wordOf (H .slots s j) + f) v H) (withNumber (L .slot s j) f v L) S
+  pub step-put : (s j f v : ℕ) → LegalColours H → 0 < H .slots s j → H .elements .pointers (named (H .elements) (H .slots s j)) ≤ f →
+      f < H .elements .words (named (H .elements) (H .slots s j)) →
+      Becomes Operations.idle (heapPut (named (H .elements) (H .slots s j) + f) v H) (withNumber (L .slot s j) f v L) S
   step-put s j f v A z b c =
       let r = slot-record s j z in
       let b′ = rw (r .1, R .represents .placed .pointers (S .graph .slot s j) (r .0)) at b in

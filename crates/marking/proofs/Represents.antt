@@ -11,7 +11,7 @@ use Rattle.marking.proofs.Updates.{test, of-true, of-false, differ, upd
 use Rattle.marking.proofs.Graph.{Graph, setSlot, setField, emptyStack}
 use Rattle.marking.proofs.Colours.{Colours, Marked, shade, shadeAll, shadeAll-grows}
 use Rattle.marking.proofs.Operations.{State}
-use Rattle.marking.specs.WordHeap.{marking, ColourBits, Elements, WordHeap, shadeBits, shadeAllBits}
+use Rattle.marking.specs.WordHeap.{marking, ColourBits, Elements, WordHeap, shadeBits, shadeAllBits, named}
 use Rattle.model.specs.Memory.{addressOf, wordOf}
 
 -- where each record lies: its first word, and how many it has
@@ -83,7 +83,7 @@ module _ {allocatedBit allocated : ℕ → Bool} {E : Elements} {Y : Layout} (G 
       go (inr e) = rw (eqb-no x y (differ x y e), eqb-no (Y .at x) (Y .at y) (no-share (differ x y e) (P .apart x y l k (differ x y e))))
 
   pub shade-colours : {B : ColourBits} {C : Colours} (x : ℕ) → ((x ≡ 0) ⊎ Live allocated x) → Marked C 0 → SameColours Y allocated B C →
-      SameColours Y allocated (shadeBits (E .scan) (address Y x) B) (shade G x C)
+      SameColours Y allocated (shadeBits (E .scan) (named E) (address Y x) B) (shade G x C)
   unfolding shadeBits shade
   shade-colours {B} {C} x (inl e) z Q = record {
     marked = λ y l. simp (e, address-nil, eqb-no y 0 (omega arith), or-false, Q .marked y l);
@@ -104,7 +104,7 @@ module _ {allocatedBit allocated : ℕ → Bool} {E : Elements} {Y : Layout} (G 
   -- many shadings: a f is the address of g f
   pub shadeAll-colours : {B : ColourBits} {C : Colours} (a g : ℕ → ℕ) (n : ℕ) → ((f : ℕ) → f < n → a f ≡ address Y (g f)) →
       ((f : ℕ) → (g f ≡ 0) ⊎ Live allocated (g f)) →
-      Marked C 0 → SameColours Y allocated B C → SameColours Y allocated (shadeAllBits (E .scan) a n B) (shadeAll G g n C)
+      Marked C 0 → SameColours Y allocated B C → SameColours Y allocated (shadeAllBits (E .scan) (named E) a n B) (shadeAll G g n C)
   unfolding shadeAllBits shadeAll
   shadeAll-colours a g zero h k z Q = Q
   shadeAll-colours {B} {C} a g (suc n) h k z Q =

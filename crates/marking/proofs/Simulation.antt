@@ -11,7 +11,7 @@ use Rattle.model.specs.Memory.{slotCount}
 use Rattle.marking.proofs.Graph.{setSlot, setField, emptyStack}
 use Rattle.marking.proofs.Colours.{Marked, shade, shadeAll, ungray, setGrayStack, shade-grows}
 use Rattle.marking.proofs.Operations.{State, idle, assign, store, resetStack, start, finish, endCycle, scanStack, scanGlobals, markStep, sweepStep, perform, markAt}
-use Rattle.marking.specs.WordHeap.{off, mark, sweep, marking, ColourBits, Elements, WordHeap, LegalColours, Alike, barrier, shadeBits, shadeAllBits, heapAssign, heapStore, heapStoreGlobal, heapPut, heapResetStack, heapStart, heapScanStack, heapScanGlobals, heapMarkStep, heapFinish, heapSweep, heapEndCycle}
+use Rattle.marking.specs.WordHeap.{off, mark, sweep, marking, ColourBits, Elements, WordHeap, LegalColours, Alike, barrier, shadeBits, shadeAllBits, heapAssign, heapStore, heapStoreGlobal, heapPut, heapResetStack, heapStart, heapScanStack, heapScanGlobals, heapMarkStep, heapFinish, heapSweep, heapEndCycle, named}
 use Rattle.marking.proofs.Safety.{Invariant}
 use Rattle.marking.proofs.Represents.{Layout, address, Live, SameColours, Represents, same-place, shade-colours, shadeAll-colours, assign-words, store-words, storeGlobal-words, put-words, emptyStack-words}
 
@@ -50,13 +50,13 @@ module _ {H : WordHeap} {Y : Layout} {numbers : ℕ → ℕ → ℕ} {S : State}
   kept-barrier o a x l = rw (Z .phase) (go (marking (S .phase)) refl)
     where
       go : (b : Bool) → marking (S .phase) ≡ b →
-          S .kept x ≡ cond (H .unswept (Y .at x)) ((cond b (shadeBits (H .elements .scan) a (shadeBits (H .elements .scan) o (H .bits))) (H .bits)) .marked (Y .at x)) true
+          S .kept x ≡ cond (H .unswept (Y .at x)) ((cond b (shadeBits (H .elements .scan) (named (H .elements)) a (shadeBits (H .elements .scan) (named (H .elements)) o (H .bits))) (H .bits)) .marked (Y .at x)) true
       go true e = kept-any (is-true (marking (S .phase)) e)
-          (shadeBits (H .elements .scan) a (shadeBits (H .elements .scan) o (H .bits))) x l
+          (shadeBits (H .elements .scan) (named (H .elements)) a (shadeBits (H .elements .scan) (named (H .elements)) o (H .bits))) x l
       go false e = Z .kept x l
 
   colours-barrier : (x f v : ℕ) → T (S .kept x) → T (S .kept v) → (m : T (marking (S .phase))) →
-      SameColours Y (S .allocated) (shadeBits (H .elements .scan) (address Y v) (shadeBits (H .elements .scan) (address Y (S .graph .field x f)) (H .bits))) (shade (S .graph) v (shade (S .graph) (S .graph .field x f) (S .colours)))
+      SameColours Y (S .allocated) (shadeBits (H .elements .scan) (named (H .elements)) (address Y v) (shadeBits (H .elements .scan) (named (H .elements)) (address Y (S .graph .field x f)) (H .bits))) (shade (S .graph) v (shade (S .graph) (S .graph .field x f) (S .colours)))
   colours-barrier x f v k n m =
       shade-colours (S .graph) (Z .placed) v (nil-or-live I v n) (shade-grows (S .graph) (S .graph .field x f) (S .colours) 0 (I .tricolour m .nil))
       (shade-colours (S .graph) (Z .placed) (S .graph .field x f) (nil-or-live I (S .graph .field x f) (I .keptClosed .step x f k)) (I .tricolour m .nil) (Z .colours m))
@@ -167,13 +167,13 @@ module _ {H : WordHeap} {Y : Layout} {numbers : ℕ → ℕ → ℕ} {S : State}
       grayGlobals = shaded m .grayGlobals;
       grayStack = same-flag _ _ t false (shaded m .grayStack);
     };
-    kept = kept-any (rw p tt) (shadeAllBits (H .elements .scan) (H .slots t) slotCount (H .bits));
+    kept = kept-any (rw p tt) (shadeAllBits (H .elements .scan) (named (H .elements)) (H .slots t) slotCount (H .bits));
     opened = Z .opened;
     phase = Z .phase;
   }
     where
       shaded : T (marking (S .phase)) →
-          SameColours Y (S .allocated) (shadeAllBits (H .elements .scan) (H .slots t) slotCount (H .bits)) (shadeAll (S .graph) (S .graph .slot t) slotCount (S .colours))
+          SameColours Y (S .allocated) (shadeAllBits (H .elements .scan) (named (H .elements)) (H .slots t) slotCount (H .bits)) (shadeAll (S .graph) (S .graph .slot t) slotCount (S .colours))
       shaded m = shadeAll-colours (S .graph) (Z .placed) (H .slots t) (S .graph .slot t) slotCount (λ i _. Z .words .slot t i)
           (λ i. nil-or-live I (S .graph .slot t i) (I .keptClosed .root t i)) (I .tricolour m .nil) (Z .colours m)
 
@@ -191,7 +191,7 @@ module _ {H : WordHeap} {Y : Layout} {numbers : ℕ → ℕ → ℕ} {S : State}
           grayStack = Z .colours m .grayStack;
         });
     kept = kept-any (rw p tt)
-        (shadeAllBits (H .elements .scan) (H .globals) (S .graph .pointers 0) (record { marked = H .bits .marked; gray = H .bits .gray; grayGlobals = false; grayStack = H .bits .grayStack }));
+        (shadeAllBits (H .elements .scan) (named (H .elements)) (H .globals) (S .graph .pointers 0) (record { marked = H .bits .marked; gray = H .bits .gray; grayGlobals = false; grayStack = H .bits .grayStack }));
     opened = Z .opened;
     phase = Z .phase;
   }
@@ -212,7 +212,7 @@ module _ {H : WordHeap} {Y : Layout} {numbers : ℕ → ℕ → ℕ} {S : State}
           grayStack = Z .colours m .grayStack;
         });
     kept = kept-any (rw p tt)
-        (shadeAllBits (H .elements .scan) (λ f. H .arena (Y .at x + f)) (S .graph .pointers x) (record { marked = H .bits .marked; gray = update (H .bits .gray) (Y .at x) false; grayGlobals = H .bits .grayGlobals; grayStack = H .bits .grayStack }));
+        (shadeAllBits (H .elements .scan) (named (H .elements)) (λ f. H .arena (Y .at x + f)) (S .graph .pointers x) (record { marked = H .bits .marked; gray = update (H .bits .gray) (Y .at x) false; grayGlobals = H .bits .grayGlobals; grayStack = H .bits .grayStack }));
     opened = Z .opened;
     phase = Z .phase;
   }

@@ -8,7 +8,7 @@ use lib.Dec.{T, eqb}
 use Rattle.marking.specs.Effect.{lasting, inCycle, inMarking, isSweep, turnedOff, work}
 use Rattle.marking.specs.Count.{count}
 use Rattle.model.specs.Memory.{addressOf, wordOf}
-use Rattle.marking.specs.WordHeap.{WordHeap}
+use Rattle.marking.specs.WordHeap.{WordHeap, named}
 use Rattle.marking.specs.Ledger.{Ledger, Event, effect, Each, feed, feedAll, value, word, Reachable, lastBorn}
 use Rattle.marking.specs.Trace.{Step, Steps, ready, more}
 
@@ -57,7 +57,7 @@ subject Event.endCycle = nothing
 abbrev pub given : Subject → WordHeap → ℕ
 given nothing H = 0
 given (slot s i) H = H .slots s i
-given (number s j f) H = H .arena (wordOf (H .slots s j) + f)
+given (number s j f) H = H .arena (named (H .elements) (H .slots s j) + f)
 
 abbrev pub expected : Subject → Ledger → ℕ
 expected nothing L = 0

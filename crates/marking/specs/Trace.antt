@@ -5,8 +5,8 @@ use mathlib.Core.Logic.{_⊎_}
 use mathlib.Core.List.{List, [], _∷_}
 use Prim.Native.Nat.{ℕ, _+_, _≤_, _<_}
 use lib.Dec.{T, ltb}
-use Rattle.model.specs.Memory.{slotCount, globalCount, addressOf, wordOf}
-use Rattle.marking.specs.WordHeap.{off, mark, sweep, Elements, WordHeap, LegalColours, Alike, heapAssign, heapStore, heapStoreGlobal, heapPut, heapResetStack, heapStart, heapScanStack, heapScanGlobals, heapMarkStep, heapFinish, heapSweep, heapEndCycle, heapAllocate}
+use Rattle.model.specs.Memory.{slotCount, globalCount, addressOf}
+use Rattle.marking.specs.WordHeap.{off, mark, sweep, Elements, WordHeap, LegalColours, Alike, heapAssign, heapStore, heapStoreGlobal, heapPut, heapResetStack, heapStart, heapScanStack, heapScanGlobals, heapMarkStep, heapFinish, heapSweep, heapEndCycle, heapAllocate, named}
 use Rattle.marking.specs.Ledger.{Event}
 
 -- a heap after a setup
@@ -30,16 +30,16 @@ pub data Step (H : WordHeap) : Event → WordHeap → Type 0 where
   copy : (s i j : ℕ) → LegalColours H → T (H .opened s) → i < slotCount → Step H (Event.copy s i j) (heapAssign s i (H .slots s j) H)
   clear : (s i : ℕ) → LegalColours H → T (H .opened s) → i < slotCount → Step H (Event.clear s i) (heapAssign s i 0 H)
   load : (s i j f : ℕ) → LegalColours H → T (H .opened s) → i < slotCount → 0 < H .slots s j →
-      f < H .elements .pointers (wordOf (H .slots s j)) →
-      Step H (Event.load s i j f) (heapAssign s i (H .arena (wordOf (H .slots s j) + f)) H)
+      f < H .elements .pointers (named (H .elements) (H .slots s j)) →
+      Step H (Event.load s i j f) (heapAssign s i (H .arena (named (H .elements) (H .slots s j) + f)) H)
   loadGlobal : (s i g : ℕ) → LegalColours H → T (H .opened s) → i < slotCount → Step H (Event.loadGlobal s i g) (heapAssign s i (H .globals g) H)
-  store : (s j f k : ℕ) → LegalColours H → 0 < H .slots s j → f < H .elements .pointers (wordOf (H .slots s j)) →
-      Step H (Event.store s j f k) (heapStore (wordOf (H .slots s j) + f) (H .slots s k) H)
-  put : (s j f v : ℕ) → LegalColours H → 0 < H .slots s j → H .elements .pointers (wordOf (H .slots s j)) ≤ f →
-      f < H .elements .words (wordOf (H .slots s j)) →
-      Step H (Event.put s j f v) (heapPut (wordOf (H .slots s j) + f) v H)
-  get : (s j f : ℕ) → 0 < H .slots s j → H .elements .pointers (wordOf (H .slots s j)) ≤ f →
-      f < H .elements .words (wordOf (H .slots s j)) →
+  store : (s j f k : ℕ) → LegalColours H → 0 < H .slots s j → f < H .elements .pointers (named (H .elements) (H .slots s j)) →
+      Step H (Event.store s j f k) (heapStore (named (H .elements) (H .slots s j) + f) (H .slots s k) H)
+  put : (s j f v : ℕ) → LegalColours H → 0 < H .slots s j → H .elements .pointers (named (H .elements) (H .slots s j)) ≤ f →
+      f < H .elements .words (named (H .elements) (H .slots s j)) →
+      Step H (Event.put s j f v) (heapPut (named (H .elements) (H .slots s j) + f) v H)
+  get : (s j f : ℕ) → 0 < H .slots s j → H .elements .pointers (named (H .elements) (H .slots s j)) ≤ f →
+      f < H .elements .words (named (H .elements) (H .slots s j)) →
       Step H (Event.get s j f) H
   storeGlobal : (s g i : ℕ) → LegalColours H → g < globalCount → Step H (Event.storeGlobal s g i) (heapStoreGlobal g (H .slots s i) H)
   allocate : (s i p n w : ℕ) (arena : ℕ → ℕ) (E : Elements) (unswept : ℕ → Bool) → LegalColours H → T (H .opened s) → i < slotCount →

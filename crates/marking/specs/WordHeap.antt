@@ -52,19 +52,23 @@ pub record LegalColours (H : WordHeap) : Type 0 where
 abbrev pub Alike : Elements → Elements → ℕ → Type 0
 Alike E F w = (E .scan w ≡ F .scan w) × (E .pointers w ≡ F .pointers w) × (E .words w ≡ F .words w)
 
+-- the first word of the record that a value names. A value names a record by the address of its first word, so that the elements are not looked at.
+abbrev pub named : Elements → ℕ → ℕ
+named E a = wordOf a
+
 -- "Shading nil or a marked record does nothing; a white record is marked, and made gray if its span is scan."
-unfoldable pub shadeBits : (ℕ → Bool) → ℕ → ColourBits → ColourBits
-shadeBits scan a B = record {
-  marked = λ w. cond (eqb a 0) (B .marked w) (B .marked w || eqb w (wordOf a));
-  gray = λ w. cond (eqb a 0) (B .gray w) (B .gray w || (eqb w (wordOf a) && (not (B .marked w) && scan w)));
+unfoldable pub shadeBits : (scan : ℕ → Bool) (names : ℕ → ℕ) → ℕ → ColourBits → ColourBits
+shadeBits scan names a B = record {
+  marked = λ w. cond (eqb a 0) (B .marked w) (B .marked w || eqb w (names a));
+  gray = λ w. cond (eqb a 0) (B .gray w) (B .gray w || (eqb w (names a) && (not (B .marked w) && scan w)));
   grayGlobals = B .grayGlobals;
   grayStack = B .grayStack;
 }
 
 -- g 0, g 1, .. g (n - 1) are shaded
-unfoldable pub shadeAllBits : (ℕ → Bool) → (ℕ → ℕ) → ℕ → ColourBits → ColourBits
-shadeAllBits scan g zero B = B
-shadeAllBits scan g (suc n) B = shadeBits scan (g n) (shadeAllBits scan g n B)
+unfoldable pub shadeAllBits : (scan : ℕ → Bool) (names : ℕ → ℕ) → (ℕ → ℕ) → ℕ → ColourBits → ColourBits
+shadeAllBits scan names g zero B = B
+shadeAllBits scan names g (suc n) B = shadeBits scan names (g n) (shadeAllBits scan names g n B)
 
 -- parts changed
 abbrev pub withMarked : (ℕ → Bool) → ColourBits → ColourBits
@@ -103,7 +107,7 @@ heapAssign t i a H = withRoots (update2 (H .slots) t i a) (H .globals) (H .opene
 
 -- "in the mark phase, a store to a record or a global first shades the old value, then the new"
 abbrev pub barrier : WordHeap → ℕ → ℕ → ColourBits
-barrier H o a = cond (marking (H .phase)) (shadeBits (H .elements .scan) a (shadeBits (H .elements .scan) o (H .bits))) (H .bits)
+barrier H o a = cond (marking (H .phase)) (shadeBits (H .elements .scan) (named (H .elements)) a (shadeBits (H .elements .scan) (named (H .elements)) o (H .bits))) (H .bits)
 
 unfoldable pub heapStore : (w a : ℕ) → WordHeap → WordHeap
 heapStore w a H = withArena (update (H .arena) w a) (withBits (barrier H (H .arena w) a) H)
@@ -127,16 +131,16 @@ unfoldable pub heapStart : WordHeap → WordHeap
 heapStart H = withPhase mark (withBits (withGrayGlobals true (withGrayStack (H .opened) (H .bits))) H)
 
 unfoldable pub heapScanStack : ℕ → WordHeap → WordHeap
-heapScanStack t H = withBits (stackScanned t (shadeAllBits (H .elements .scan) (H .slots t) slotCount (H .bits))) H
+heapScanStack t H = withBits (stackScanned t (shadeAllBits (H .elements .scan) (named (H .elements)) (H .slots t) slotCount (H .bits))) H
 
 -- the first n globals
 unfoldable pub heapScanGlobals : ℕ → WordHeap → WordHeap
-heapScanGlobals n H = withBits (shadeAllBits (H .elements .scan) (H .globals) n (withGrayGlobals false (H .bits))) H
+heapScanGlobals n H = withBits (shadeAllBits (H .elements .scan) (named (H .elements)) (H .globals) n (withGrayGlobals false (H .bits))) H
 
 -- the record at word w, which has p pointer words
 unfoldable pub heapMarkStep : (w p : ℕ) → WordHeap → WordHeap
 heapMarkStep w p H = withBits
-    (shadeAllBits (H .elements .scan) (λ f. H .arena (w + f)) p (withGray (update (H .bits .gray) w false) (H .bits))) H
+    (shadeAllBits (H .elements .scan) (named (H .elements)) (λ f. H .arena (w + f)) p (withGray (update (H .bits .gray) w false) (H .bits))) H
 
 -- the words of `unswept` are then unswept
 unfoldable pub heapFinish : (unswept : ℕ → Bool) → WordHeap → WordHeap

@@ -13,7 +13,7 @@ use Rattle.model.specs.Bounded.{someBelow}
 use Rattle.model.specs.Memory.{Heap, goodBuffers, words, state, globalsState, phase, root, word, slot, wordOf, addressOf, stackCount, slotCount, firstState, rootWords, pageWords, maxPages, entryNumbers, bitmapWords, unsweptFlag}
 use Rattle.model.specs.Classes.{classPages, kinds, fewestLarge, mostLarge}
 use Rattle.model.specs.Bitmaps.{Part, allocated, marked, gray, pointer, is}
-use Rattle.model.specs.Spans.{owner, pageCount, kindEntry, kindAt, classAt, spanOf, elementOf, elementNumber, elements, elementStart, kept}
+use Rattle.model.specs.Spans.{owner, pageCount, kindEntry, kindAt, classAt, spanOf, elementOf, elementNumber, elements, elementStart, kept, recordOf}
 use Rattle.model.specs.Audit.{goodKind, goodFirst, goodPage, goodWord, goodStack, goodStates, isReference, audit}
 use Rattle.model.proofs.Tests.{of-true, and-iff, or-iff, eqb-iff, leb-iff}
 use Rattle.model.proofs.Bounded.{some-iff}
@@ -93,15 +93,15 @@ states-iff h = simp tests Iff·rfl
 
 pub reference-iff : (h : Heap) (v : ℕ) → T (isReference h v) ↔ Reference (h .pages) (h .table) (h .bits) v
 unfolding isReference
-reference-iff h v = (λ x. to (or-iff (eqb v 0) (eqb v (addressOf (wordOf v)) && kept h (wordOf v)) .0 x), λ x. or-iff (eqb v 0) (eqb v (addressOf (wordOf v)) && kept h (wordOf v)) .1 (back x))
+reference-iff h v = (λ x. to (or-iff (eqb v 0) (eqb v (addressOf (wordOf v)) && kept h (recordOf (h .table) v)) .0 x), λ x. or-iff (eqb v 0) (eqb v (addressOf (wordOf v)) && kept h (recordOf (h .table) v)) .1 (back x))
   where
-    to : (T (eqb v 0) ⊎ T (eqb v (addressOf (wordOf v)) && kept h (wordOf v))) → Reference (h .pages) (h .table) (h .bits) v
+    to : (T (eqb v 0) ⊎ T (eqb v (addressOf (wordOf v)) && kept h (recordOf (h .table) v))) → Reference (h .pages) (h .table) (h .bits) v
     to (inl e) = inl (eqb-iff v 0 .0 e)
-    to (inr e) = let f = and-iff (eqb v (addressOf (wordOf v))) (kept h (wordOf v)) .0 e in inr (eqb-iff v (addressOf (wordOf v)) .0 (f .0), f .1)
+    to (inr e) = let f = and-iff (eqb v (addressOf (wordOf v))) (kept h (recordOf (h .table) v)) .0 e in inr (eqb-iff v (addressOf (wordOf v)) .0 (f .0), f .1)
 
-    back : Reference (h .pages) (h .table) (h .bits) v → T (eqb v 0) ⊎ T (eqb v (addressOf (wordOf v)) && kept h (wordOf v))
+    back : Reference (h .pages) (h .table) (h .bits) v → T (eqb v 0) ⊎ T (eqb v (addressOf (wordOf v)) && kept h (recordOf (h .table) v))
     back (inl e) = inl (eqb-iff v 0 .1 e)
-    back (inr f) = inr (and-iff (eqb v (addressOf (wordOf v))) (kept h (wordOf v)) .1 (eqb-iff v (addressOf (wordOf v)) .1 (f .0), f .1))
+    back (inr f) = inr (and-iff (eqb v (addressOf (wordOf v))) (kept h (recordOf (h .table) v)) .1 (eqb-iff v (addressOf (wordOf v)) .1 (f .0), f .1))
 
 -- the whole
 

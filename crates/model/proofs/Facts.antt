@@ -32,28 +32,6 @@ swept-all {P} {t} F Q g = go (eqb (owner t g) (g + 1)) refl
 pub not-unswept : {P ph : ℕ} {t b : List ℕ} → Spans P t → Phases P ph t b → ph ≢ 2 → (g : ℕ) → isUnswept t g ≡ false
 not-unswept F Q d = swept-all F (Q .swept d)
 
--- what is kept is allocated
-pub kept-allocated : {P : ℕ} {t b : List ℕ} → Bits P t b → (w : ℕ) → T (keptAt P t b w) → T (bit P allocated b w)
-kept-allocated {P} {t} {b} C w = go (unsweptAt t w)
-  where
-    go : (c : Bool) → T (cond c (bit P marked b w) (bit P allocated b w)) → T (bit P allocated b w)
-    go true m = C .marks w m
-    go false a = a
-
--- a reference that is not nil names a kept element, and so a word of the arena
-pub named : {P : ℕ} {t b : List ℕ} → Bits P t b → (v : ℕ) → v ≢ 0 → Reference P t b v → T (bit P allocated b (wordOf v)) × T (keptAt P t b (wordOf v)) × (wordOf v < pageWords * P)
-named C v d (inl e) = absurd (d e)
-named {P} {t} {b} C v d (inr f) =
-    let a = kept-allocated C (wordOf v) (f .1) in
-    (a, f .1, bit-inside (pageWords * P) allocated b (wordOf v) a)
-
--- nil, or the address of a word of the arena
-abbrev pub There : ℕ → ℕ → Type 0
-There P v = v ≢ 0 → wordOf v < pageWords * P
-
-pub reference-there : {P : ℕ} {t b : List ℕ} → Bits P t b → (v : ℕ) → Reference P t b v → There P v
-reference-there C v r d = named C v d r .2
-
 -- the pointer words of a kept element hold references
 pub pointer-word : {h : Heap} → Audited h → (w : ℕ) → T (is allocated h w) → T (kept h w) → (f : ℕ) → f < pointerCount h w →
     T (is pointer h (w + f)) × Reference (h .pages) (h .table) (h .bits) (getD (h .arena) (w + f) 0)

@@ -7,6 +7,7 @@ pub mod Table
 pub mod Rules
 pub mod Classes
 pub mod Spans
+pub mod Named
 pub mod Facts
 pub mod Audit
 pub mod Checks

@@ -10,10 +10,10 @@ use native.Mathlib.Omega.{arith}
 use lib.ListN.{getD}
 use lib.Dec.{T, eqb}
 use borrow.Author.Tests.{eqb-true, eqb-false, eq-eqb, ne-eqb, lt-leb}
-use Rattle.model.specs.Memory.{Heap, putWords, phase, state, slot, wordOf, slotCount, pageWords, unsweptFlag}
+use Rattle.model.specs.Memory.{Heap, putWords, phase, state, slot, slotCount, pageWords, unsweptFlag}
 use Rattle.model.specs.Classes.{classOf, kindOf, pagesFor, elementWordsOf}
 use Rattle.model.specs.Bitmaps.{allocated, marked, pointer, is}
-use Rattle.model.specs.Spans.{putPage, owner, pageCount, kindEntry, isUnswept, elementStart, elementNumber, spanPage}
+use Rattle.model.specs.Spans.{putPage, owner, pageCount, kindEntry, isUnswept, elementStart, elementNumber, spanPage, recordOf}
 use Rattle.model.specs.Shading.{shade, shadeAll, barrier}
 use Rattle.model.specs.Checks.{phaseRefusal, openRefusal}
 use Rattle.model.specs.Answers.{_orElse_}
@@ -26,46 +26,47 @@ use Rattle.model.proofs.Bitmaps.{Four}
 use Rattle.model.proofs.Table.{owner-put}
 use Rattle.model.specs.Facts.{IsSpan, Sized, bit}
 use Rattle.model.proofs.Effects.{barrier-is, new-at, swept-at, swept-table, room-is, allocate-is, start-is, scan-stack-is}
-use Rattle.model.proofs.Facts.{four, There}
+use Rattle.model.proofs.Facts.{four}
+use Rattle.model.proofs.Named.{There}
 use Rattle.model.proofs.Shading.{shade-length, shade-marked, all-four, all-suc}
 
 -- a shaded record is marked, and a marked one stays so
-pub shade-marks : (P : ℕ) (t : List ℕ) (v : ℕ) (b : List ℕ) → There P v → Four (pageWords * P) b → v ≢ 0 → T (bit P marked (shade P t v b) (wordOf v))
-shade-marks P t v b h f d = rw (shade-marked P t v b h f (wordOf v), ne-eqb v 0 d, eq-eqb (wordOf v) (wordOf v) refl) (is-true _ (or-true (bit P marked b (wordOf v))))
+pub shade-marks : (P : ℕ) (t : List ℕ) (v : ℕ) (b : List ℕ) → There P t v → Four (pageWords * P) b → v ≢ 0 → T (bit P marked (shade P t v b) (recordOf t v))
+shade-marks P t v b h f d = rw (shade-marked P t v b h f (recordOf t v), ne-eqb v 0 d, eq-eqb (recordOf t v) (recordOf t v) refl) (is-true _ (or-true (bit P marked b (recordOf t v))))
 
-pub shade-keeps : (P : ℕ) (t : List ℕ) (v : ℕ) (b : List ℕ) → There P v → Four (pageWords * P) b → (w : ℕ) → T (bit P marked b w) → T (bit P marked (shade P t v b) w)
+pub shade-keeps : (P : ℕ) (t : List ℕ) (v : ℕ) (b : List ℕ) → There P t v → Four (pageWords * P) b → (w : ℕ) → T (bit P marked b w) → T (bit P marked (shade P t v b) w)
 shade-keeps P t v b h f w m = rw (shade-marked P t v b h f w) (go (eqb v 0))
   where
-    go : (z : Bool) → T (cond z (bit P marked b w) (bit P marked b w || eqb w (wordOf v)))
+    go : (z : Bool) → T (cond z (bit P marked b w) (bit P marked b w || eqb w (recordOf t v)))
     go true = m
-    go false = or-iff (bit P marked b w) (eqb w (wordOf v)) .1 (mathlib.Core.Logic.inl m)
+    go false = or-iff (bit P marked b w) (eqb w (recordOf t v)) .1 (mathlib.Core.Logic.inl m)
 
 -- .. of many
-pub all-marks : (P : ℕ) (t : List ℕ) (value : ℕ → ℕ) (b : List ℕ) → Four (pageWords * P) b → (n : ℕ) → ((k : ℕ) → k < n → There P (value k)) →
-    (k : ℕ) → k < n → value k ≢ 0 → T (bit P marked (shadeAll P t n value b) (wordOf (value k)))
+pub all-marks : (P : ℕ) (t : List ℕ) (value : ℕ → ℕ) (b : List ℕ) → Four (pageWords * P) b → (n : ℕ) → ((k : ℕ) → k < n → There P t (value k)) →
+    (k : ℕ) → k < n → value k ≢ 0 → T (bit P marked (shadeAll P t n value b) (recordOf t (value k)))
 all-marks P t value b f zero h k l d = absurd (omega arith)
 all-marks P t value b f (suc n) h k l d = rw (all-suc P t n value b) (go (eqb k n) refl (λ m. all-marks P t value b f n (λ j q. h j (omega arith)) k m d))
   where
     four′ : Four (pageWords * P) (shadeAll P t n value b)
     four′ = all-four P t value b f n (λ j q. h j (omega arith))
 
-    go : (c : Bool) → eqb k n ≡ c → (k < n → T (bit P marked (shadeAll P t n value b) (wordOf (value k)))) →
-        T (bit P marked (shade P t (value n) (shadeAll P t n value b)) (wordOf (value k)))
+    go : (c : Bool) → eqb k n ≡ c → (k < n → T (bit P marked (shadeAll P t n value b) (recordOf t (value k)))) →
+        T (bit P marked (shade P t (value n) (shadeAll P t n value b)) (recordOf t (value k)))
     go true e ih = let z : k ≡ n = eqb-true k n e in rw z (shade-marks P t (value n) (shadeAll P t n value b) (h n (omega arith)) four′ (rw z at d))
-    go false e ih = shade-keeps P t (value n) (shadeAll P t n value b) (h n (omega arith)) four′ (wordOf (value k)) (ih (omega (arith, eqb-false k n e)))
+    go false e ih = shade-keeps P t (value n) (shadeAll P t n value b) (h n (omega arith)) four′ (recordOf t (value k)) (ih (omega (arith, eqb-false k n e)))
 
 module _ (h : Heap) (Z : Sized h) where
   -- in the mark phase a store marks what the word held, and what it gets
-  module _ (one : phase h ≡ 1) (old new : ℕ) (ho : There (h .pages) old) (hn : There (h .pages) new) where
+  module _ (one : phase h ≡ 1) (old new : ℕ) (ho : There (h .pages) (h .table) old) (hn : There (h .pages) (h .table) new) where
     first : Four (pageWords * h .pages) (shade (h .pages) (h .table) old (h .bits))
     first = rw (shade-length (h .pages) (h .table) old (h .bits) ho (four h Z)) (four h Z)
 
-    pub barrier-old : old ≢ 0 → T (bit (h .pages) marked (barrier h old new) (wordOf old))
+    pub barrier-old : old ≢ 0 → T (bit (h .pages) marked (barrier h old new) (recordOf (h .table) old))
     barrier-old d = rw (barrier-is h old new, one)
-        (shade-keeps (h .pages) (h .table) new (shade (h .pages) (h .table) old (h .bits)) hn first (wordOf old)
+        (shade-keeps (h .pages) (h .table) new (shade (h .pages) (h .table) old (h .bits)) hn first (recordOf (h .table) old)
         (shade-marks (h .pages) (h .table) old (h .bits) ho (four h Z) d))
 
-    pub barrier-new : new ≢ 0 → T (bit (h .pages) marked (barrier h old new) (wordOf new))
+    pub barrier-new : new ≢ 0 → T (bit (h .pages) marked (barrier h old new) (recordOf (h .table) new))
     barrier-new d = rw (barrier-is h old new, one) (shade-marks (h .pages) (h .table) new (shade (h .pages) (h .table) old (h .bits)) hn first d)
 
   -- a record born in the mark phase is marked
@@ -91,8 +92,8 @@ module _ (h : Heap) (Z : Sized h) where
   start-bits = rw (start-is h) (cond-same (eqb (phaseRefusal h 0) 0) (h .bits))
 
   -- a scan of a gray stack marks what each of its 32 slots names
-  pub scan-slots : (s : ℕ) → (phaseRefusal h 1 orElse openRefusal h s) ≡ 0 → state h s ≡ 2 → ((i : ℕ) → i < slotCount → There (h .pages) (slot h s i)) →
-      (i : ℕ) → i < slotCount → slot h s i ≢ 0 → T (bit (h .pages) marked (scanStack h s .heap .bits) (wordOf (slot h s i)))
+  pub scan-slots : (s : ℕ) → (phaseRefusal h 1 orElse openRefusal h s) ≡ 0 → state h s ≡ 2 → ((i : ℕ) → i < slotCount → There (h .pages) (h .table) (slot h s i)) →
+      (i : ℕ) → i < slotCount → slot h s i ≢ 0 → T (bit (h .pages) marked (scanStack h s .heap .bits) (recordOf (h .table) (slot h s i)))
   scan-slots s e two th i l d = rw (scan-stack-is h s, e, eq-eqb (state h s) 2 two) (all-marks (h .pages) (h .table) (slot h s) (h .bits) (four h Z) slotCount th i l d)
 
   -- a sweep step leaves allocated what is marked, and a pointer bit where its element is

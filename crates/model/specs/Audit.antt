@@ -3,10 +3,10 @@ use Prim.Native.Nat.{ℕ, _+_, _-_}
 use mathlib.Core.Bool.{Bool, _&&_, _||_, not}
 use mathlib.Core.List.{List}
 use Rattle.model.specs.Bounded.{_==_, _<?_, _≤?_, if_then_else_, _implies_, allBelow, someBelow}
-use Rattle.model.specs.Memory.{Heap, words, stackCount, slotCount, slot, state, globalsState, phase, root, closed, openState, grayState, off, mark, sweep, nil, addressOf, wordOf, recordOf, word, firstState, unsweptFlag}
+use Rattle.model.specs.Memory.{Heap, words, stackCount, slotCount, slot, state, globalsState, phase, root, closed, openState, grayState, off, mark, sweep, nil, addressOf, wordOf, word, firstState, unsweptFlag}
 use Rattle.model.specs.Classes.{classPages, fewestLarge, mostLarge, kinds}
 use Rattle.model.specs.Bitmaps.{is, allocated, marked, gray}
-use Rattle.model.specs.Spans.{owner, pageCount, kindEntry, isFree, startsSpan, isUnswept, kindAt, classAt, isScan, elements, elementStart, spanOf, elementOf, inElement, startsElement, isPointer, kept}
+use Rattle.model.specs.Spans.{owner, pageCount, kindEntry, isFree, startsSpan, isUnswept, kindAt, classAt, isScan, elements, elementStart, spanOf, elementOf, inElement, startsElement, isPointer, kept, recordOf}
 
 -- "the page count is the class's (5 to 128 for class 0)"; a kind is one of the 134, and at most the unswept flag is added
 unfoldable pub goodKind : List ℕ → ℕ → Bool
@@ -60,7 +60,7 @@ goodPointer h w =
 
 -- "nil or the address of a kept element"
 unfoldable pub isReference : Heap → ℕ → Bool
-isReference h v = v == nil || v == addressOf (wordOf v) && kept h (recordOf v)
+isReference h v = v == nil || v == addressOf (wordOf v) && kept h (recordOf (h .table) v)
 
 -- "every pointer word of a kept element, is nil or the address of a kept element"
 abbrev pub goodContent : Heap → ℕ → Bool

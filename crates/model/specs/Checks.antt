@@ -2,10 +2,10 @@
 use Prim.Native.Nat.{ℕ, _/_}
 use mathlib.Core.Bool.{_||_, not}
 use Rattle.model.specs.Bounded.{_==_, _<?_, _≤?_}
-use Rattle.model.specs.Memory.{Heap, goodBuffers, stackCount, slotCount, globalCount, state, phase, slot, closed, nil, recordOf, wordBytes}
+use Rattle.model.specs.Memory.{Heap, goodBuffers, stackCount, slotCount, globalCount, state, phase, slot, closed, nil, wordBytes}
 use Rattle.model.specs.Answers.{_given_, _orElse_, badBuffers, wrongPhase, badStack, badSlot, badSize, nilSlot, badField}
 use Rattle.model.specs.Classes.{maxSize}
-use Rattle.model.specs.Spans.{elementWords, spanOf, pointerCount}
+use Rattle.model.specs.Spans.{elementWords, spanOf, pointerCount, recordOf}
 
 -- 1: "P or a length is not as above"
 abbrev pub buffersRefusal : Heap → ℕ
@@ -48,7 +48,7 @@ numberFieldRefusal h w f = badField given (f <? pointerCount h w || elementWords
 
 -- the first word of the record in slot j of stack s
 abbrev pub recordAt : Heap → ℕ → ℕ → ℕ
-recordAt h s j = recordOf (slot h s j)
+recordAt h s j = recordOf (h .table) (slot h s j)
 
 -- the checks that several calls make: slot i of an open stack s; slots i and j; a global and a slot
 unfoldable pub slotRefusal : Heap → ℕ → ℕ → ℕ

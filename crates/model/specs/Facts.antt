@@ -10,7 +10,7 @@ use lib.Dec.{T}
 use Rattle.model.specs.Memory.{Heap, maxPages, pageWords, entryNumbers, unsweptFlag, bitmapWords, rootWords, stackCount, slotCount, firstState, stateAt, globalsStateAt, phaseAt, slotAt, pageOf, wordOf, addressOf, closed, openState, grayState, off, mark, sweep, nil}
 use Rattle.model.specs.Bitmaps.{Part, allocated, marked, gray, pointer, bitIn, is}
 use Rattle.model.specs.Classes.{classPages, kinds, fewestLarge, mostLarge}
-use Rattle.model.specs.Spans.{owner, pageCount, kindEntry, elements, elementNumber, isScan, isUnswept, spanOf, elementOf, kept}
+use Rattle.model.specs.Spans.{owner, pageCount, kindEntry, elements, elementNumber, isScan, isUnswept, spanOf, elementOf, kept, recordOf}
 
 -- the four lengths, and P
 pub record Sized (h : Heap) : Type 0 where
@@ -86,7 +86,7 @@ keptAt P t b w = cond (unsweptAt t w) (bit P marked b w) (bit P allocated b w)
 
 -- "nil or the address of a kept element"
 abbrev pub Reference : ℕ → List ℕ → List ℕ → ℕ → Type 0
-Reference P t b v = (v ≡ 0) ⊎ ((v ≡ addressOf (wordOf v)) × T (keptAt P t b (wordOf v)))
+Reference P t b v = (v ≡ nil) ⊎ ((v ≡ addressOf (wordOf v)) × T (keptAt P t b (recordOf t v)))
 
 pub record References (h : Heap) : Type 0 where
   pub root : (i : ℕ) → i < firstState → Reference (h .pages) (h .table) (h .bits) (getD (h .roots) i 0)

@@ -177,10 +177,6 @@ addressOf w = firstAddress + wordBytes * w
 abbrev pub wordOf : ℕ → ℕ
 wordOf a = (a - firstAddress) / wordBytes
 
--- the first word of the record that a value names
-abbrev pub recordOf : ℕ → ℕ
-recordOf v = wordOf v
-
 -- the page of word w, and the first word of page g
 abbrev pub pageOf : ℕ → ℕ
 pageOf w = w / pageWords

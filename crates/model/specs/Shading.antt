@@ -3,20 +3,20 @@ use Prim.Native.Nat.{ℕ, _*_}
 use mathlib.Core.Bool.{Bool, true, _&&_, not}
 use mathlib.Core.List.{List}
 use Rattle.model.specs.Bounded.{_==_, if_then_else_, countBelow, foldBelow}
-use Rattle.model.specs.Memory.{Heap, pageWords, nil, recordOf, phase, mark}
+use Rattle.model.specs.Memory.{Heap, pageWords, nil, phase, mark}
 use Rattle.model.specs.Bitmaps.{bitIn, putBit, marked, gray}
-use Rattle.model.specs.Spans.{isScan, spanOf}
+use Rattle.model.specs.Spans.{isScan, spanOf, recordOf}
 
 -- the value names a record that is not marked
-abbrev pub isWhite : ℕ → ℕ → List ℕ → Bool
-isWhite p v b = not (v == nil) && not (bitIn (pageWords * p) marked b (recordOf v))
+abbrev pub isWhite : ℕ → List ℕ → ℕ → List ℕ → Bool
+isWhite p t v b = not (v == nil) && not (bitIn (pageWords * p) marked b (recordOf t v))
 
 -- "Shading nil or a marked record does nothing; a white record is marked, and made gray if its span is scan."
 unfoldable pub shade : ℕ → List ℕ → ℕ → List ℕ → List ℕ
 shade p t v b =
-    let w = recordOf v in
+    let w = recordOf t v in
     let black = putBit (pageWords * p) marked w true b in
-    if isWhite p v b then (if isScan t (spanOf t w) then putBit (pageWords * p) gray w true black else black)
+    if isWhite p t v b then (if isScan t (spanOf t w) then putBit (pageWords * p) gray w true black else black)
     else b
 
 -- the first n of the values shaded, in order
@@ -25,7 +25,7 @@ shadeAll p t n value b = foldBelow n (λ i. shade p t (value i)) b
 
 -- how many mark bits that turns on: the values that are white when their turn comes
 unfoldable pub shadeCount : ℕ → List ℕ → ℕ → (ℕ → ℕ) → List ℕ → ℕ
-shadeCount p t n value b = countBelow n (λ i. isWhite p (value i) (shadeAll p t i value b))
+shadeCount p t n value b = countBelow n (λ i. isWhite p t (value i) (shadeAll p t i value b))
 
 -- "in the mark phase, a store to a record or a global first shades the old value, then the new"
 unfoldable pub barrier : Heap → ℕ → ℕ → List ℕ

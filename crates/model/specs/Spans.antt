@@ -4,7 +4,7 @@ use mathlib.Core.Bool.{Bool, _&&_, not, cond}
 use mathlib.Core.List.{List}
 use lib.ListN.{getD, set}
 use Rattle.model.specs.Bounded.{_==_, _<?_, _≤?_, firstBelow, writeRun}
-use Rattle.model.specs.Memory.{Heap, entryNumbers, unsweptFlag, pageOf, firstWord}
+use Rattle.model.specs.Memory.{Heap, entryNumbers, unsweptFlag, pageOf, firstWord, wordOf}
 use Rattle.model.specs.Classes.{elementWordsOf, elementsOf}
 use Rattle.model.specs.Bitmaps.{is, allocated, marked, pointer}
 
@@ -92,6 +92,11 @@ inElement t w = not (isFree t (pageOf w)) && elementNumber t (spanOf t w) w <? e
 -- word w is the first of an element
 abbrev pub startsElement : List ℕ → ℕ → Bool
 startsElement t w = inElement t w && elementOf t w == w
+
+-- the first word of the record that a value names, by the page table. A value names a record by the address of its first word, so that the table is not
+-- looked at.
+abbrev pub recordOf : List ℕ → ℕ → ℕ
+recordOf t v = wordOf v
 
 -- word w is a pointer word: its pointer bit is on
 abbrev pub isPointer : Heap → ℕ → Bool

@@ -11,7 +11,8 @@ use Rattle.model.specs.Checks.{pointerRefusal, numberRefusal, recordAt}
 use Rattle.model.proofs.Bounded.{first-props}
 use Rattle.model.proofs.Checks.{PointerField, pointer-passed, number-passed}
 use Rattle.model.specs.Facts.{Audited}
-use Rattle.model.proofs.Facts.{named, pointer-word}
+use Rattle.model.proofs.Named.{named}
+use Rattle.model.proofs.Facts.{pointer-word}
 use Rattle.shading.specs.Needs.{Stored}
 use Rattle.shading.proofs.References.{reference-named, audited-tables}
 use Rattle.fields.specs.Needs.{Field, Rooted}

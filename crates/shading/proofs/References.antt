@@ -5,7 +5,7 @@ use mathlib.Core.Logic.{_≢_}
 use native.Mathlib.Omega.{arith}
 use Rattle.model.specs.Memory.{Heap, wordOf}
 use Rattle.model.specs.Facts.{Spans, Audited, Bits, Reference}
-use Rattle.model.proofs.Facts.{named}
+use Rattle.model.proofs.Named.{named}
 use Rattle.shading.specs.Needs.{Tables, Named}
 
 -- a reference that is not nil names a record

@@ -18,7 +18,7 @@ use Rattle.model.proofs.Shading.{all-zero, all-suc}
 use Rattle.shading.specs.Needs.{Named, Shades, ShadesAll}
 
 -- what is not white stays
-black : (p : ℕ) (t : List ℕ) (v : ℕ) (b : List ℕ) → isWhite p v b ≡ false → Shades p t v b 0 b
+black : (p : ℕ) (t : List ℕ) (v : ℕ) (b : List ℕ) → isWhite p t v b ≡ false → Shades p t v b 0 b
 unfolding shade
 black p t v b e = record { count = rw e; bits = rw e }
 
@@ -54,7 +54,7 @@ shaded-both p a t b r old new e f g = rw (eq-eqb (getD r 561 0) 1 e, ← f .bits
 
 -- at most one mark turns on
 pub at-most-one : {p : ℕ} {t : List ℕ} {v : ℕ} {b : List ℕ} {n : ℕ} {x : List ℕ} → Shades p t v b n x → n ≤ 1
-at-most-one {p} {t} {v} {b} S = rw (S .count) (go (isWhite p v b))
+at-most-one {p} {t} {v} {b} S = rw (S .count) (go (isWhite p t v b))
   where
     go : (w : Bool) → cond w 1 0 ≤ 1
     go true = omega arith
@@ -63,12 +63,12 @@ at-most-one {p} {t} {v} {b} S = rw (S .count) (go (isWhite p v b))
 -- the values of a slice: none, and one more
 pub none-shaded : (p : ℕ) (t : List ℕ) (value : ℕ → ℕ) (b : List ℕ) → ShadesAll p t 0 value b 0 b
 unfolding shadeCount
-none-shaded p t value b = record { count = rw (count-none (λ i. isWhite p (value i) (shadeAll p t i value b))); bits = sym (all-zero p t value b) }
+none-shaded p t value b = record { count = rw (count-none (λ i. isWhite p t (value i) (shadeAll p t i value b))); bits = sym (all-zero p t value b) }
 
 pub one-more : (p : ℕ) (t : List ℕ) (k : ℕ) (value : ℕ → ℕ) (b : List ℕ) {m n : ℕ} {x y : List ℕ} → ShadesAll p t k value b m x → Shades p t (value k) x n y → ShadesAll p t (k + 1) value b (m + n) y
 unfolding shadeCount
 one-more p t k value b A S =
     record {
-      count = rw (count-step k (λ i. isWhite p (value i) (shadeAll p t i value b)), ← A .bits, A .count, S .count);
+      count = rw (count-step k (λ i. isWhite p t (value i) (shadeAll p t i value b)), ← A .bits, A .count, S .count);
       bits = rw (add-one k, all-suc p t k value b, ← A .bits) (S .bits);
     }

@@ -5,8 +5,8 @@ use mathlib.Core.List.{List}
 use mathlib.Core.Logic.{_≢_}
 use mathlib.Core.Path.{_≡_}
 use lib.ListN.{length, getD}
-use Rattle.model.specs.Memory.{maxPages, pageWords, entryNumbers, bitmapWords, rootWords, nil, recordOf, pageOf}
-use Rattle.model.specs.Spans.{spanOf}
+use Rattle.model.specs.Memory.{maxPages, pageWords, entryNumbers, bitmapWords, rootWords, nil, pageOf}
+use Rattle.model.specs.Spans.{spanOf, recordOf}
 use Rattle.model.specs.Shading.{isWhite, shade, shadeAll, shadeCount}
 
 -- a page table and bitmaps of p pages
@@ -17,8 +17,8 @@ pub record Tables (p : ℕ) (t b : List ℕ) : Type 0 where
 
 -- the record that a value names lies in the arena, and its span starts there
 pub record Named (p : ℕ) (t : List ℕ) (v : ℕ) : Type 0 where
-  pub word : recordOf v < pageWords * p
-  pub span : spanOf t (recordOf v) < p
+  pub word : recordOf t v < pageWords * p
+  pub span : spanOf t (recordOf t v) < p
 
 -- the span that word w lies in has its entry in the table
 pub record Scanned (t : List ℕ) (w : ℕ) : Type 0 where
@@ -45,7 +45,7 @@ pub record Each (p : ℕ) (t b words : List ℕ) (from n : ℕ) : Type 0 where
 
 -- What shading leaves: how many mark bits it turned on, and the bitmaps. One value ..
 pub record Shades (p : ℕ) (t : List ℕ) (v : ℕ) (b : List ℕ) (r : ℕ) (after : List ℕ) : Type 0 where
-  pub count : r ≡ cond (isWhite p v b) 1 0
+  pub count : r ≡ cond (isWhite p t v b) 1 0
   pub bits : after ≡ shade p t v b
 
 -- .. and the first n of many
