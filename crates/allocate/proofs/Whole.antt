@@ -8,9 +8,9 @@ use native.Mathlib.Nat.{mul-le-mul-right}
 use native.Mathlib.Omega.{arith}
 use lib.Dec.{T, ltb, ltb→lt}
 use borrow.Author.Tests.{ltb-true, not-true}
-use Rattle.model.specs.Memory.{Heap, pageOf, slotAt}
+use Rattle.model.specs.Memory.{Heap, pageOf, slotAt, stackCount, slotCount, pageWords, wordBytes}
 use Rattle.model.specs.Answers.{Meets, numbers}
-use Rattle.model.specs.Classes.{classOf, kindOf, pagesFor, elementWordsOf}
+use Rattle.model.specs.Classes.{classOf, kindOf, pagesFor, elementWordsOf, maxSize}
 use Rattle.model.specs.Spans.{elementWords, elementStart, putPages, spanPage}
 use Rattle.model.specs.Allocate.{freeElement, spanWithRoom, bestRun, roomFor, newWord, newTable, allocateRefusal, allocate}
 use Rattle.model.specs.declared.Answer.the-variants.{Value}
@@ -31,7 +31,7 @@ searches {h} F = record {
   roots = F .sized .roots;
 }
 
-module _ {h : Heap} (F : Audited h) (size p : ℕ) (some : size ≢ 0) (limit : size ≤ 1048576) (pointers : p ≤ size / 8) where
+module _ {h : Heap} (F : Audited h) (size p : ℕ) (some : size ≢ 0) (limit : size ≤ maxSize) (pointers : p ≤ size / wordBytes) where
   abbrev old : ℕ
   old = spanWithRoom h (kindOf size p)
 
@@ -44,12 +44,12 @@ module _ {h : Heap} (F : Audited h) (size p : ℕ) (some : size ≢ 0) (limit : 
   old-words x = room-words F size p (takes size p some limit pointers) old (x .span) (x .same) (x .free)
 
   -- the new element lies in the arena
-  pub new-inside : T (roomFor h (kindOf size p) (pagesFor size)) → newWord h (kindOf size p) (pagesFor size) + elementWordsOf (classOf size) (pagesFor size) ≤ 1024 * h .pages
+  pub new-inside : T (roomFor h (kindOf size p) (pagesFor size)) → newWord h (kindOf size p) (pagesFor size) + elementWordsOf (classOf size) (pagesFor size) ≤ pageWords * h .pages
   unfolding newWord
   new-inside = go (ltb old (h .pages)) refl
     where
       go : (b : Bool) → ltb old (h .pages) ≡ b → T (b || ltb new (h .pages)) →
-          cond b (elementStart (h .table) old (freeElement h old)) (1024 * new) + elementWordsOf (classOf size) (pagesFor size) ≤ 1024 * h .pages
+          cond b (elementStart (h .table) old (freeElement h old)) (pageWords * new) + elementWordsOf (classOf size) (pagesFor size) ≤ pageWords * h .pages
       go true e _ =
           let x = span-found h (kindOf size p) (ltb-true old (h .pages) e) in
           rw (old-words x) (omega (arith, element-fits (F .spans) old (freeElement h old) (x .span) (x .free), F .spans .inside old (x .span)))
@@ -64,7 +64,7 @@ module _ {h : Heap} (F : Audited h) (size p : ℕ) (some : size ≢ 0) (limit : 
   unfolding newWord
   new-extends f w e g m t =
       let c : ltb old (h .pages) ≡ false = not-true (ltb old (h .pages)) (sym e ∙ t) in
-      let v : w ≡ 1024 * new = rw c at g in
+      let v : w ≡ pageWords * new = rw c at g in
       let i = best-fits (h .pages) (h .table) (pagesFor size) (ltb→lt new (h .pages) (rw c at m)) in
       record { few = omega (arith, F .sized .high); long = omega (arith, F .sized .table) }
 
@@ -78,16 +78,16 @@ table-is h kind n f w e g = rw (e, g) (go (ltb (spanWithRoom h kind) (h .pages))
     s = bestRun (h .pages) (h .table) n
 
     go : (b : Bool) →
-        let v = cond b (elementStart (h .table) (spanWithRoom h kind) (freeElement h (spanWithRoom h kind))) (1024 * s) in
+        let v = cond b (elementStart (h .table) (spanWithRoom h kind) (freeElement h (spanWithRoom h kind))) (pageWords * s) in
         cond (not b) (putPages (pageOf v) n (spanPage (pageOf v) n kind) (h .table)) (h .table) ≡ cond b (h .table) (putPages s n (spanPage s n kind) (h .table))
     go true = refl
-    go false = let z : 1024 * s / 1024 ≡ s = omega arith in rw z
+    go false = let z : pageWords * s / pageWords ≡ s = omega arith in rw z
 
 -- what is known where an allocation is accepted
 pub record Accepted (h : Heap) (s i size p w : ℕ) (f : Bool) : Type 0 where
   pub number : allocateRefusal h s i size p ≡ 0
-  pub stack : s < 16
-  pub slot : i < 32
+  pub stack : s < stackCount
+  pub slot : i < slotCount
   pub word : w ≡ newWord h (kindOf size p) (pagesFor size)
   pub extends : f ≡ true → Extends (h .table) w size
   pub takes : Takes (h .pages) w size p (slotAt s i) (h .arena) (h .bits) (h .roots)
@@ -100,7 +100,7 @@ accepted-facts {h} F s i size p {r} {w} {f} D z =
     let K = takes size p (A .some) (A .limit) (A .pointers) in
     let v = D .word z in
     let e = D .fresh z in
-    let inside : w + elementWordsOf (classOf size) (pagesFor size) ≤ 1024 * h .pages = rw v (new-inside F size p (A .some) (A .limit) (A .pointers) (A .room)) in
+    let inside : w + elementWordsOf (classOf size) (pagesFor size) ≤ pageWords * h .pages = rw v (new-inside F size p (A .some) (A .limit) (A .pointers) (A .room)) in
     record {
       number = sym (D .number) ∙ z;
       stack = A .stack .below;

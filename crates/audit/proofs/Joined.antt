@@ -7,7 +7,7 @@ use mathlib.Core.Path.{_≡_, refl}
 use lib.Dec.{T, eqb}
 use lib.ListN.{getD}
 use borrow.Author.Tests.{eqb-false, not-true}
-use Rattle.model.specs.Memory.{Heap}
+use Rattle.model.specs.Memory.{Heap, phaseAt}
 use Rattle.model.specs.Audit.{audit}
 use Rattle.model.proofs.Tests.{is-true, same-test}
 use Rattle.model.specs.Facts.{Spans, Sized, Bits, Phases, States, Occupied, Audited}
@@ -40,8 +40,8 @@ module _ (h : Heap) (Z : Sized h) where
   pub filled : Spans (h .pages) (h .table) → Bits (h .pages) (h .table) (h .bits) → Filled (h .pages) (h .arena) (h .table) (h .bits)
   filled F B = record { spanned = spanned F; arena = Z .arena; set = B }
 
-  pub joined : States (h .roots) → Pages (h .pages) (getD (h .roots) 561 0) (h .table) →
-      Bits (h .pages) (h .table) (h .bits) × Phases (h .pages) (getD (h .roots) 561 0) (h .table) (h .bits) → Occupied (h .pages) (h .table) (h .bits) →
+  pub joined : States (h .roots) → Pages (h .pages) (getD (h .roots) phaseAt 0) (h .table) →
+      Bits (h .pages) (h .table) (h .bits) × Phases (h .pages) (getD (h .roots) phaseAt 0) (h .table) (h .bits) → Occupied (h .pages) (h .table) (h .bits) →
       Roots (h .pages) (h .table) (h .bits) (h .roots) → Contents (h .pages) (h .arena) (h .table) (h .bits) → Audited h
   joined S F B O R C =
       record { sized = Z; spans = F .spans; bits = B .0; phases = B .1; references = record { root = R; content = C }; states = S; occupied = O }
@@ -51,5 +51,5 @@ pub told : (phase : ℕ) (t : List ℕ) → (phase ≢ 2 → Swept t) → Told (
 told phase t h e = h (eqb-false phase 2 (not-true (eqb phase 2) e))
 
 -- what the page table's part says of an audited heap
-pub paged : (h : Heap) → Audited h → Pages (h .pages) (getD (h .roots) 561 0) (h .table)
+pub paged : (h : Heap) → Audited h → Pages (h .pages) (getD (h .roots) phaseAt 0) (h .table)
 paged h F = record { spans = F .spans; swept = F .phases .swept }

@@ -5,7 +5,7 @@ use mathlib.Core.Logic.{_↔_}
 use mathlib.Core.Path.{_≡_, refl}
 use lib.Dec.{T, eqb}
 use lib.ListN.{length}
-use Rattle.model.specs.Memory.{Heap, goodBuffers}
+use Rattle.model.specs.Memory.{Heap, goodBuffers, rootWords, pageWords, maxPages, entryNumbers, bitmapWords}
 use Rattle.model.specs.Answers.{_given_, _orElse_}
 use Rattle.model.specs.Audit.{audit}
 use Rattle.model.specs.Calls.{entry}
@@ -14,10 +14,10 @@ use Rattle.model.specs.Facts.{Sized}
 use Rattle.model.proofs.Audit.{sized, sized-good}
 
 module _ (h : Heap) where
-  pub last-length : 1 ≤ h .pages → h .pages ≤ 256 → length (h .arena) ≡ 1024 * h .pages → length (h .table) ≡ 3 * h .pages → length (h .bits) ≡ 64 * h .pages →
-      T (eqb (length (h .roots)) 562) ↔ Sized h
+  pub last-length : 1 ≤ h .pages → h .pages ≤ maxPages → length (h .arena) ≡ pageWords * h .pages → length (h .table) ≡ entryNumbers * h .pages → length (h .bits) ≡ bitmapWords * h .pages →
+      T (eqb (length (h .roots)) rootWords) ↔ Sized h
   last-length l m a t b =
-      (λ x. record { low = l; high = m; arena = a; table = t; bits = b; roots = eqb-iff (length (h .roots)) 562 .0 x }, λ Z. eqb-iff (length (h .roots)) 562 .1 (Z .roots))
+      (λ x. record { low = l; high = m; arena = a; table = t; bits = b; roots = eqb-iff (length (h .roots)) rootWords .0 x }, λ Z. eqb-iff (length (h .roots)) rootWords .1 (Z .roots))
 
   pub bad-buffers : (Sized h → ⊥) → 1 ≡ entry h
   unfolding entry _given_ _orElse_

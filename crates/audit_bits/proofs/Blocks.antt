@@ -7,6 +7,7 @@ use native.Mathlib.Omega.{arith}
 use lib.Bits.{bitAnd}
 use lib.Dec.{T, ltb, leb}
 use lib.ListN.{getD}
+use Rattle.model.specs.Memory.{pageBlocks}
 use Rattle.model.specs.Bounded.{_implies_, allBelow}
 use Rattle.model.specs.Bitmaps.{allocated, marked, gray, pointer}
 use Rattle.model.proofs.Tests.{and-iff, same-test, is-true}
@@ -47,12 +48,12 @@ module _ (P : ℕ) (b : List ℕ) (at starts off left before marks grays scans :
       sym (all-from 64 (blockRule P b at starts off left before marks grays scans)
       (λ j l. bare-keeps (bit P allocated b (64 * at + j)) (bit P marked b (64 * at + j)) (bit P gray b (64 * at + j)) (bit P pointer b (64 * at + j)) _ _ _ _ _ _ (is-true _ (all-at 64 (λ j. bare P b (64 * at + j)) (sym e) j l))))
 
-  module _ (h : at < 16 * P) (first inside : ℕ) (fs : (j : ℕ) → j < 64 → on first j ≡ (leb off j && on starts (j - off))) (is : (j : ℕ) → j < 64 → on inside j ≡ ltb j left) where
+  module _ (h : at < pageBlocks * P) (first inside : ℕ) (fs : (j : ℕ) → j < 64 → on first j ≡ (leb off j && on starts (j - off))) (is : (j : ℕ) → j < 64 → on inside j ≡ ltb j left) where
     abbrev colours : ℕ → Bool
-    colours = rule (getD b at 0) (getD b (16 * P + at) 0) (getD b (2 * (16 * P) + at) 0) (bitAnd first inside) marks grays
+    colours = rule (getD b at 0) (getD b (pageBlocks * P + at) 0) (getD b (2 * (pageBlocks * P) + at) 0) (bitAnd first inside) marks grays
 
     abbrev pointers : ℕ → Bool
-    pointers = pointerRule (bitAnd (getD b at 0) scans) (getD b (3 * (16 * P) + at) 0) (bitAnd first inside) (bitAnd inside scans) before
+    pointers = pointerRule (bitAnd (getD b at 0) scans) (getD b (3 * (pageBlocks * P) + at) 0) (bitAnd first inside) (bitAnd inside scans) before
 
     pub block-is : (allBelow 64 colours && allBelow 64 pointers) ≡ allBelow 64 (blockRule P b at starts off left before marks grays scans)
     unfolding rule pointerRule keeps

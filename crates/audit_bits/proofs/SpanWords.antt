@@ -9,6 +9,7 @@ use native.Mathlib.Omega.{arith}
 use native.Mathlib.Nat.{div-add-mod', div-lt-iff-lt-mul, zero-mod, mod-lt, mod-eq-of-lt, mul-add-mod-self-right}
 use lib.Dec.{T, eqb, ltb}
 use borrow.Author.Tests.{eqb-true, eqb-false, ne-eqb}
+use Rattle.model.specs.Memory.{pageWords}
 use Rattle.model.specs.Bitmaps.{allocated, marked, gray, pointer}
 use Rattle.model.specs.Spans.{owner, pageCount, isScan, isUnswept, spanOf, elementOf, elementNumber, elementWords, elements}
 use Rattle.model.proofs.Tests.{and-iff, or-iff, eqb-iff, ltb-iff, of-true}
@@ -72,19 +73,19 @@ facts-marks phase u l d f = or-iff (eqb phase 1) (eqb phase 2 && u) .1 (go (eqb 
 
 module _ {P : ℕ} {t : List ℕ} (F : Spans P t) (s : ℕ) (i : IsSpan t s) where
   -- word o of the span
-  module _ (o : ℕ) (l : o < 1024 * pageCount t s) where
+  module _ (o : ℕ) (l : o < pageWords * pageCount t s) where
     abbrev w : ℕ
-    w = 1024 * s + o
+    w = pageWords * s + o
 
-    here : (owner t (w / 1024) ≡ s + 1) × (spanOf t w ≡ s)
+    here : (owner t (w / pageWords) ≡ s + 1) × (spanOf t w ≡ s)
     here = at-home F s w i (omega arith) (omega arith)
 
     number : elementNumber t s w ≡ o / elementWords t s
     unfolding elementNumber
-    number = let e : w - 1024 * s ≡ o = omega arith in rw e
+    number = let e : w - pageWords * s ≡ o = omega arith in rw e
 
     -- the element around it
-    around : elementOf t w ≡ 1024 * s + o / elementWords t s * elementWords t s
+    around : elementOf t w ≡ pageWords * s + o / elementWords t s * elementWords t s
     around = rw (here .1, number)
 
     within : o < elements t s * elementWords t s → InElement t w
@@ -101,27 +102,27 @@ module _ {P : ℕ} {t : List ℕ} (F : Spans P t) (s : ℕ) (i : IsSpan t s) whe
 
   module _ (phase : ℕ) (b : List ℕ) where
     abbrev alloc : ℕ → Bool
-    alloc o = bit P allocated b (1024 * s + o)
+    alloc o = bit P allocated b (pageWords * s + o)
 
     abbrev point : ℕ → Bool
-    point o = bit P pointer b (1024 * s + o)
+    point o = bit P pointer b (pageWords * s + o)
 
     -- every word of the span keeps its rules
-    module _ (K : (o : ℕ) → o < 1024 * pageCount t s → T (spanRule P phase t b s o)) where
-      kept : (o : ℕ) → o < 1024 * pageCount t s →
-          Kept (bit P allocated b (1024 * s + o)) (bit P marked b (1024 * s + o)) (bit P gray b (1024 * s + o)) (bit P pointer b (1024 * s + o))
+    module _ (K : (o : ℕ) → o < pageWords * pageCount t s → T (spanRule P phase t b s o)) where
+      kept : (o : ℕ) → o < pageWords * pageCount t s →
+          Kept (bit P allocated b (pageWords * s + o)) (bit P marked b (pageWords * s + o)) (bit P gray b (pageWords * s + o)) (bit P pointer b (pageWords * s + o))
           (eqb (o % elementWords t s) 0 && ltb o (elements t s * elementWords t s)) (ltb o (elements t s * elementWords t s))
-          (marksStand phase (isUnswept t s)) (eqb phase 1 && isScan t s) (isScan t s) (ltb 0 o && bit P pointer b (1024 * s + (o - 1)))
+          (marksStand phase (isUnswept t s)) (eqb phase 1 && isScan t s) (isScan t s) (ltb 0 o && bit P pointer b (pageWords * s + (o - 1)))
       kept o l = keeps-facts (K o l)
 
       -- a pointer that is not at an element's start follows another
-      follower : (o : ℕ) → o < 1024 * pageCount t s → o % elementWords t s ≢ 0 → T (point o) → (0 < o) × T (point (o - 1))
+      follower : (o : ℕ) → o < pageWords * pageCount t s → o % elementWords t s ≢ 0 → T (point o) → (0 < o) × T (point (o - 1))
       follower o l d q =
           let x = and-iff (ltb 0 o) (point (o - 1)) .0 (kept o l .next q (rw (ne-eqb (o % elementWords t s) 0 d) tt)) in
           (ltb-iff 0 o .0 (x .0), x .1)
 
       -- .. so the start of its element is allocated
-      owned : (r o : ℕ) → o < 1024 * pageCount t s → o % elementWords t s ≡ r → T (point o) → T (alloc (o - r))
+      owned : (r o : ℕ) → o < pageWords * pageCount t s → o % elementWords t s ≡ r → T (point o) → T (alloc (o - r))
       owned zero o l e q =
           let z : o - 0 ≡ o = omega arith in
           rw z (kept o l .first q (and-iff (eqb (o % elementWords t s) 0) (ltb o (elements t s * elementWords t s)) .1 (eqb-iff (o % elementWords t s) 0 .1 e, kept o l .lies q .0)))
@@ -130,46 +131,46 @@ module _ {P : ℕ} {t : List ℕ} (F : Spans P t) (s : ℕ) (i : IsSpan t s) whe
           let z : o - 1 - r ≡ o - suc r = omega arith in
           rw z at (owned r (o - 1) (omega arith) (before-mod o (elementWords t s) r (fits F s i .words) e) (x .1))
 
-      pub span-words : (o : ℕ) → o < 1024 * pageCount t s → WordBits P phase t b (1024 * s + o)
+      pub span-words : (o : ℕ) → o < pageWords * pageCount t s → WordBits P phase t b (pageWords * s + o)
       span-words o l = record { element = element; marks = marks; grays = grays; pointers = pointers; head = head; run = run }
         where
-          scan-at : T (isScan t s) → T (scanAt t (1024 * s + o))
+          scan-at : T (isScan t s) → T (scanAt t (pageWords * s + o))
           scan-at x = rw (here o l .1) x
 
-          element : T (alloc o) → Element t (1024 * s + o)
+          element : T (alloc o) → Element t (pageWords * s + o)
           element a =
               let x = and-iff (eqb (o % elementWords t s) 0) (ltb o (elements t s * elementWords t s)) .0 (kept o l .starts a) in
               record { lies = within o l (ltb-iff _ _ .0 (x .1)); first = first-word o l (eqb-iff _ _ .0 (x .0)) }
 
-          marks : T (bit P marked b (1024 * s + o)) → T (alloc o) × (phase ≢ 0) × (phase ≡ 2 → T (unsweptAt t (1024 * s + o)))
+          marks : T (bit P marked b (pageWords * s + o)) → T (alloc o) × (phase ≢ 0) × (phase ≡ 2 → T (unsweptAt t (pageWords * s + o)))
           marks m =
               let x = kept o l .marked m in
               let y = marks-facts phase (isUnswept t s) (x .1) in
               (x .0, y .0, λ e. rw (here o l .1) (y .1 e))
 
-          grays : T (bit P gray b (1024 * s + o)) → T (bit P marked b (1024 * s + o)) × T (scanAt t (1024 * s + o)) × (phase ≡ 1)
+          grays : T (bit P gray b (pageWords * s + o)) → T (bit P marked b (pageWords * s + o)) × T (scanAt t (pageWords * s + o)) × (phase ≡ 1)
           grays g =
               let x = kept o l .grayed g in
               let y = and-iff (eqb phase 1) (isScan t s) .0 (x .1) in
               (x .0, scan-at (y .1), eqb-iff phase 1 .0 (y .0))
 
-          pointers : T (point o) → InElement t (1024 * s + o) × T (scanAt t (1024 * s + o)) × T (bit P allocated b (elementOf t (1024 * s + o)))
+          pointers : T (point o) → InElement t (pageWords * s + o) × T (scanAt t (pageWords * s + o)) × T (bit P allocated b (elementOf t (pageWords * s + o)))
           pointers q =
               let x = kept o l .lies q in
-              let e : elementOf t (1024 * s + o) ≡ 1024 * s + (o - o % elementWords t s) = around o l ∙ omega (arith, div-add-mod' o (elementWords t s)) in
+              let e : elementOf t (pageWords * s + o) ≡ pageWords * s + (o - o % elementWords t s) = around o l ∙ omega (arith, div-add-mod' o (elementWords t s)) in
               (within o l (ltb-iff _ _ .0 (x .0)), scan-at (x .1), rw e (owned (o % elementWords t s) o l refl q))
 
-          head : T (alloc o) → T (scanAt t (1024 * s + o)) → T (point o)
+          head : T (alloc o) → T (scanAt t (pageWords * s + o)) → T (point o)
           head a x = kept o l .head a (rw (here o l .1) at x)
 
-          run : T (point o) → elementOf t (1024 * s + o) ≢ 1024 * s + o → T (bit P pointer b (1024 * s + o - 1))
+          run : T (point o) → elementOf t (pageWords * s + o) ≢ pageWords * s + o → T (bit P pointer b (pageWords * s + o - 1))
           run q d =
               let x = follower o l (λ z. d (first-word o l z)) q in
-              let e : 1024 * s + o - 1 ≡ 1024 * s + (o - 1) = omega (arith, x .0) in
+              let e : pageWords * s + o - 1 ≡ pageWords * s + (o - 1) = omega (arith, x .0) in
               rw e (x .1)
 
     -- and back, word by word
-    pub words-span : phase ≤ 2 → (o : ℕ) → o < 1024 * pageCount t s → WordBits P phase t b (1024 * s + o) → T (spanRule P phase t b s o)
+    pub words-span : phase ≤ 2 → (o : ℕ) → o < pageWords * pageCount t s → WordBits P phase t b (pageWords * s + o) → T (spanRule P phase t b s o)
     words-span legal o l W = facts-keeps (record { starts = starts; marked = mark; grayed = grayed; lies = lies; head = head; first = first; next = next })
       where
         n : ℕ
@@ -178,7 +179,7 @@ module _ {P : ℕ} {t : List ℕ} (F : Spans P t) (s : ℕ) (i : IsSpan t s) whe
         held : ℕ
         held = elements t s * elementWords t s
 
-        scan-of : T (scanAt t (1024 * s + o)) → T (isScan t s)
+        scan-of : T (scanAt t (pageWords * s + o)) → T (isScan t s)
         scan-of x = rw (here o l .1) at x
 
         starts : T (alloc o) → T (eqb (o % elementWords t s) 0 && ltb o (elements t s * elementWords t s))
@@ -186,10 +187,10 @@ module _ {P : ℕ} {t : List ℕ} (F : Spans P t) (s : ℕ) (i : IsSpan t s) whe
             let E = W .element a in
             and-iff (eqb (o % elementWords t s) 0) (ltb o (elements t s * elementWords t s)) .1 (eqb-iff _ _ .1 (first-mod o l (E .first)), ltb-iff _ _ .1 (within-held o l (E .lies)))
 
-        mark : T (bit P marked b (1024 * s + o)) → T (alloc o) × T (marksStand phase (isUnswept t s))
+        mark : T (bit P marked b (pageWords * s + o)) → T (alloc o) × T (marksStand phase (isUnswept t s))
         mark m = let x = W .marks m in (x .0, facts-marks phase (isUnswept t s) legal (x .1) (λ e. rw (here o l .1) at (x .2 e)))
 
-        grayed : T (bit P gray b (1024 * s + o)) → T (bit P marked b (1024 * s + o)) × T (eqb phase 1 && isScan t s)
+        grayed : T (bit P gray b (pageWords * s + o)) → T (bit P marked b (pageWords * s + o)) × T (eqb phase 1 && isScan t s)
         grayed g = let x = W .grays g in (x .0, and-iff (eqb phase 1) (isScan t s) .1 (eqb-iff phase 1 .1 (x .2), scan-of (x .1)))
 
         lies : T (point o) → T (ltb o (elements t s * elementWords t s)) × T (isScan t s)
@@ -216,7 +217,7 @@ module _ {P : ℕ} {t : List ℕ} (F : Spans P t) (s : ℕ) (i : IsSpan t s) whe
                 go zero z = absurd (inner (rw (sym z) (zero-mod (elementWords t s))))
                 go (suc k) z = omega arith
 
-            e : 1024 * s + o - 1 ≡ 1024 * s + (o - 1)
+            e : pageWords * s + o - 1 ≡ pageWords * s + (o - 1)
             e = omega (arith, some)
 
 -- a free page
@@ -242,7 +243,7 @@ module _ {P phase : ℕ} {t b : List ℕ} where
         run = λ q. absurd (off (bit P pointer b w) (y .1) q);
       }
 
-  pub word-bare : (w : ℕ) → owner t (w / 1024) ≡ 0 → WordBits P phase t b w → T (bare P b w)
+  pub word-bare : (w : ℕ) → owner t (w / pageWords) ≡ 0 → WordBits P phase t b w → T (bare P b w)
   unfolding bare
   word-bare w e W = simp tests (((none (bit P allocated b w) alloc, none (bit P marked b w) mark), none (bit P gray b w) grayed), none (bit P pointer b w) point)
     where

@@ -7,6 +7,8 @@ use mathlib.Core.Path.{_≡_, refl, sym, _∙_, ap}
 use native.Mathlib.Omega.{arith}
 use lib.Dec.{T, eqb, ltb}
 use borrow.Author.Tests.{ltb-true, ltb-false, eqb-true, eqb-false, ne-eqb}
+use Rattle.model.specs.Classes.{rows, mostLarge}
+use Rattle.model.specs.Memory.{pageWords, pageBlocks, unsweptFlag}
 use Rattle.model.specs.Bounded.{allBelow, firstBelow}
 use Rattle.model.specs.Bitmaps.{bitAt, allocated, marked, gray, pointer}
 use Rattle.model.specs.Spans.{owner, pageCount, kindEntry, spanOf, elementWords, elements}
@@ -25,10 +27,10 @@ pub record SpanAt (P : ℕ) (t : List ℕ) (s : ℕ) : Type 0 where
   pub low : s < P
   pub inside : s + pageCount t s ≤ P
   pub some : 0 < pageCount t s
-  pub short : pageCount t s ≤ 128
-  pub class : kindEntry t s % 256 / 2 ≤ 66
+  pub short : pageCount t s ≤ mostLarge
+  pub class : kindEntry t s % unsweptFlag / 2 ≤ rows
   pub words : 0 < elementWords t s
-  pub held : elements t s * elementWords t s ≤ 1024 * pageCount t s
+  pub held : elements t s * elementWords t s ≤ pageWords * pageCount t s
 
 -- no span lies on both sides of the beginning of page g
 abbrev pub Edge : List ℕ → ℕ → Type 0
@@ -86,40 +88,40 @@ module _ {P : ℕ} {t : List ℕ} (F : Spans P t) where
 
 -- the tests of a free page, and of a span, say what the audit says of their words
 module _ {P phase : ℕ} {t b : List ℕ} where
-  pub free-words : (g : ℕ) → owner t g ≡ 0 → (r : Bool) → r ≡ allBelow 1024 (λ o. bare P b (1024 * g + o)) → T r ↔ GoodWords P phase t b (1024 * g) (1024 * (g + stretch t g))
+  pub free-words : (g : ℕ) → owner t g ≡ 0 → (r : Bool) → r ≡ allBelow pageWords (λ o. bare P b (pageWords * g + o)) → T r ↔ GoodWords P phase t b (pageWords * g) (pageWords * (g + stretch t g))
   free-words g e r p = rw (p, e) (there, back)
     where
-      there : T (allBelow 1024 (λ o. bare P b (1024 * g + o))) → GoodWords P phase t b (1024 * g) (1024 * (g + 1))
+      there : T (allBelow pageWords (λ o. bare P b (pageWords * g + o))) → GoodWords P phase t b (pageWords * g) (pageWords * (g + 1))
       there x w a l =
-          let z : 1024 * g + (w - 1024 * g) ≡ w = omega arith in
-          bare-word w (rw z at (all-iff 1024 (λ o. bare P b (1024 * g + o)) .0 x (w - 1024 * g) (omega arith)))
+          let z : pageWords * g + (w - pageWords * g) ≡ w = omega arith in
+          bare-word w (rw z at (all-iff pageWords (λ o. bare P b (pageWords * g + o)) .0 x (w - pageWords * g) (omega arith)))
 
-      back : GoodWords P phase t b (1024 * g) (1024 * (g + 1)) → T (allBelow 1024 (λ o. bare P b (1024 * g + o)))
-      back W = all-iff 1024 (λ o. bare P b (1024 * g + o)) .1 (λ o l. let z : (1024 * g + o) / 1024 ≡ g = omega arith in word-bare (1024 * g + o) (ap (owner t) z ∙ e) (W (1024 * g + o) (omega arith) (omega arith)))
+      back : GoodWords P phase t b (pageWords * g) (pageWords * (g + 1)) → T (allBelow pageWords (λ o. bare P b (pageWords * g + o)))
+      back W = all-iff pageWords (λ o. bare P b (pageWords * g + o)) .1 (λ o l. let z : (pageWords * g + o) / pageWords ≡ g = omega arith in word-bare (pageWords * g + o) (ap (owner t) z ∙ e) (W (pageWords * g + o) (omega arith) (omega arith)))
 
-  pub span-good : Spans P t → phase ≤ 2 → (g : ℕ) → IsSpan t g → (r : Bool) → r ≡ allBelow (64 * (16 * pageCount t g)) (spanRule P phase t b g) →
-      T r ↔ GoodWords P phase t b (1024 * g) (1024 * (g + stretch t g))
+  pub span-good : Spans P t → phase ≤ 2 → (g : ℕ) → IsSpan t g → (r : Bool) → r ≡ allBelow (64 * (pageBlocks * pageCount t g)) (spanRule P phase t b g) →
+      T r ↔ GoodWords P phase t b (pageWords * g) (pageWords * (g + stretch t g))
   span-good F legal g i r p = rw (p, ne-eqb (owner t g) 0 (omega arith)) (there, back)
     where
-      there : T (allBelow (64 * (16 * pageCount t g)) (spanRule P phase t b g)) → GoodWords P phase t b (1024 * g) (1024 * (g + pageCount t g))
+      there : T (allBelow (64 * (pageBlocks * pageCount t g)) (spanRule P phase t b g)) → GoodWords P phase t b (pageWords * g) (pageWords * (g + pageCount t g))
       there x w a l =
-          let z : 1024 * g + (w - 1024 * g) ≡ w = omega arith in
-          rw z at (span-words F g i phase b (λ o m. all-iff (64 * (16 * pageCount t g)) (spanRule P phase t b g) .0 x o (omega arith)) (w - 1024 * g) (omega arith))
+          let z : pageWords * g + (w - pageWords * g) ≡ w = omega arith in
+          rw z at (span-words F g i phase b (λ o m. all-iff (64 * (pageBlocks * pageCount t g)) (spanRule P phase t b g) .0 x o (omega arith)) (w - pageWords * g) (omega arith))
 
-      back : GoodWords P phase t b (1024 * g) (1024 * (g + pageCount t g)) → T (allBelow (64 * (16 * pageCount t g)) (spanRule P phase t b g))
+      back : GoodWords P phase t b (pageWords * g) (pageWords * (g + pageCount t g)) → T (allBelow (64 * (pageBlocks * pageCount t g)) (spanRule P phase t b g))
       back W =
-          all-iff (64 * (16 * pageCount t g)) (spanRule P phase t b g) .1 (λ o l. words-span F g i phase b legal o (omega arith) (W (1024 * g + o) (omega arith) (omega arith)))
+          all-iff (64 * (pageBlocks * pageCount t g)) (spanRule P phase t b g) .1 (λ o l. words-span F g i phase b legal o (omega arith) (W (pageWords * g + o) (omega arith) (omega arith)))
 
   -- one stretch more
-  pub good-more : (g n : ℕ) → GoodWords P phase t b 0 (1024 * g) → GoodWords P phase t b (1024 * g) (1024 * (g + n)) → GoodWords P phase t b 0 (1024 * (g + n))
-  good-more g n A B w a l = go (ltb w (1024 * g)) refl
+  pub good-more : (g n : ℕ) → GoodWords P phase t b 0 (pageWords * g) → GoodWords P phase t b (pageWords * g) (pageWords * (g + n)) → GoodWords P phase t b 0 (pageWords * (g + n))
+  good-more g n A B w a l = go (ltb w (pageWords * g)) refl
     where
-      go : (c : Bool) → ltb w (1024 * g) ≡ c → WordBits P phase t b w
-      go true p = A w a (ltb-true w (1024 * g) p)
-      go false p = B w (ltb-false w (1024 * g) p) l
+      go : (c : Bool) → ltb w (pageWords * g) ≡ c → WordBits P phase t b w
+      go true p = A w a (ltb-true w (pageWords * g) p)
+      go false p = B w (ltb-false w (pageWords * g) p) l
 
   -- the words of the whole arena
-  pub words-facts : Phased phase t → GoodWords P phase t b 0 (1024 * P) → Bits P t b × Phases P phase t b
+  pub words-facts : Phased phase t → GoodWords P phase t b 0 (pageWords * P) → Bits P t b × Phases P phase t b
   words-facts H A = (
     record {
       element = λ w x. good w allocated x .element x;
@@ -138,7 +140,7 @@ module _ {P phase : ℕ} {t b : List ℕ} where
   )
     where
       good : (w : ℕ) (q : Rattle.model.specs.Bitmaps.Part) → T (bit P q b w) → WordBits P phase t b w
-      good w q x = A w (omega arith) (bit-inside (1024 * P) q b w x)
+      good w q x = A w (omega arith) (bit-inside (pageWords * P) q b w x)
 
       off : (q : Rattle.model.specs.Bitmaps.Part) (w : ℕ) → (T (bit P q b w) → ⊥) → bit P q b w ≡ false
       off q w f = go (bit P q b w) refl
@@ -170,31 +172,31 @@ module _ {P : ℕ} {t : List ℕ} (F : Spans P t) (b : List ℕ) where
   free-used g e = (λ _ i. absurd (omega arith), λ _. tt)
 
   pub span-used : Bits P t b → (g : ℕ) → IsSpan t g → (r : ℕ) →
-      r ≡ 1024 * g + firstBelow (1024 * (g + pageCount t g) - 1024 * g) (λ k. bitAt b (1024 * g + k)) → T (ltb r (1024 * (g + pageCount t g))) ↔ Used P t b g
+      r ≡ pageWords * g + firstBelow (pageWords * (g + pageCount t g) - pageWords * g) (λ k. bitAt b (pageWords * g + k)) → T (ltb r (pageWords * (g + pageCount t g))) ↔ Used P t b g
   span-used B g i r e = (there, back)
     where
-      there : T (ltb r (1024 * (g + pageCount t g))) → Used P t b g
+      there : T (ltb r (pageWords * (g + pageCount t g))) → Used P t b g
       there x j =
-          let f = first-props (1024 * (g + pageCount t g) - 1024 * g) (λ k. bitAt b (1024 * g + k)) in
-          let l = ltb-true r (1024 * (g + pageCount t g)) (of-true _ x) in
+          let f = first-props (pageWords * (g + pageCount t g) - pageWords * g) (λ k. bitAt b (pageWords * g + k)) in
+          let l = ltb-true r (pageWords * (g + pageCount t g)) (of-true _ x) in
           let q : bitAt b r ≡ true = ap (bitAt b) e ∙ f .holds (omega arith) in
-          (r, is-true _ (bit-in (1024 * P) allocated b r (omega (arith, F .inside g i)) ∙ q), at-home F g r i (omega arith) l .1)
+          (r, is-true _ (bit-in (pageWords * P) allocated b r (omega (arith, F .inside g i)) ∙ q), at-home F g r i (omega arith) l .1)
 
-      back : Used P t b g → T (ltb r (1024 * (g + pageCount t g)))
-      back U = go (ltb r (1024 * (g + pageCount t g))) refl
+      back : Used P t b g → T (ltb r (pageWords * (g + pageCount t g)))
+      back U = go (ltb r (pageWords * (g + pageCount t g))) refl
         where
           u : (w : ℕ) × T (bit P allocated b w) × (spanOf t w ≡ g)
           u = U i
 
-          go : (c : Bool) → ltb r (1024 * (g + pageCount t g)) ≡ c → T c
+          go : (c : Bool) → ltb r (pageWords * (g + pageCount t g)) ≡ c → T c
           go true p = tt
           go false p =
-              let f = first-props (1024 * (g + pageCount t g) - 1024 * g) (λ k. bitAt b (1024 * g + k)) in
+              let f = first-props (pageWords * (g + pageCount t g) - pageWords * g) (λ k. bitAt b (pageWords * g + k)) in
               let w = u .0 in
               let h = rw (u .2) at (in-span F w (B .element w (u .1) .lies .used)) in
-              let z : 1024 * g + (w - 1024 * g) ≡ w = omega arith in
-              clash (bitAt b w) (sym (bit-in (1024 * P) allocated b w (bit-inside (1024 * P) allocated b w (u .1))) ∙ of-true _ (u .1))
-              (rw z at (f .before (w - 1024 * g) (omega (arith, ltb-false r (1024 * (g + pageCount t g)) p))))
+              let z : pageWords * g + (w - pageWords * g) ≡ w = omega arith in
+              clash (bitAt b w) (sym (bit-in (pageWords * P) allocated b w (bit-inside (pageWords * P) allocated b w (u .1))) ∙ of-true _ (u .1))
+              (rw z at (f .before (w - pageWords * g) (omega (arith, ltb-false r (pageWords * (g + pageCount t g)) p))))
 
   pub used-more : (g : ℕ) → Begins P t g → ((s : ℕ) → s < g → Used P t b s) → Used P t b g → (s : ℕ) → s < g + stretch t g → Used P t b s
   used-more g B A U s l i = go (ltb s g) refl (ltb g s) refl

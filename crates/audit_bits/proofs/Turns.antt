@@ -8,6 +8,7 @@ use native.Mathlib.Nat.{zero-mod, add-mod-mod}
 use lib.Dec.{T, eqb, ltb, leb}
 use lib.ListN.{getD}
 use borrow.Author.Tests.{ltb-true, ltb-false, lt-ltb, le-ltb, eqb-true, eqb-false}
+use Rattle.model.specs.Memory.{pageWords, pageBlocks}
 use Rattle.model.specs.Bounded.{allBelow}
 use Rattle.model.specs.Bitmaps.{bitOf, pointer}
 use Rattle.model.proofs.Tests.{is-true, of-true}
@@ -41,16 +42,16 @@ module _ (R : ℕ → Bool) (k : ℕ) where
   passes n l f = sym (all-from (64 * n) R (λ o m. of-true _ (f o (omega arith))))
 
 -- a block of a page
-pub page-block : (R : ℕ → Bool) (g k : ℕ) → allBelow 64 (λ j. R (64 * (16 * g + k) + j)) ≡ allBelow 64 (λ j. R (1024 * g + (64 * k + j)))
-page-block R g k = all-cong 64 (λ j. R (64 * (16 * g + k) + j)) (λ j. R (1024 * g + (64 * k + j))) (λ j l. ap R (omega arith))
+pub page-block : (R : ℕ → Bool) (g k : ℕ) → allBelow 64 (λ j. R (64 * (pageBlocks * g + k) + j)) ≡ allBelow 64 (λ j. R (pageWords * g + (64 * k + j)))
+page-block R g k = all-cong 64 (λ j. R (64 * (pageBlocks * g + k) + j)) (λ j. R (pageWords * g + (64 * k + j))) (λ j l. ap R (omega arith))
 
 -- what stands at the beginning of block k of the span at page s
 pub record Stands (P : ℕ) (b : List ℕ) (s size held : ℕ) (marks grays scan : Bool) (k off left before : ℕ) : Type 0 where
   pub near : off < size
   pub start : (64 * k + off) % size ≡ 0
   pub remains : left ≡ held - 64 * k
-  pub last : on before 0 ≡ (ltb 0 (64 * k) && bit P pointer b (1024 * s + (64 * k - 1)))
-  pub done : (o : ℕ) → o < 64 * k → T (wordRule P b (1024 * s) size held marks grays scan o)
+  pub last : on before 0 ≡ (ltb 0 (64 * k) && bit P pointer b (pageWords * s + (64 * k - 1)))
+  pub done : (o : ℕ) → o < 64 * k → T (wordRule P b (pageWords * s) size held marks grays scan o)
 
 -- the highest bit of a word
 top-on : (x : ℕ) → on (x / 2 ^ 63) 0 ≡ on x 63
@@ -86,35 +87,35 @@ module _ (P : ℕ) (b : List ℕ) (s size held : ℕ) (marks grays scan : Bool) 
       start-is : (j : ℕ) → j < 64 → (leb off j && on mask (j - off)) ≡ eqb ((64 * k + j) % size) 0
       start-is j l = rw (on-mask (j - off) (omega arith), starts-from size (64 * k) off j (x .near) (x .start))
 
-      follows-is : (j : ℕ) → cond (eqb j 0) (on before 0) (bit P pointer b (64 * (16 * s + k) + (j - 1))) ≡ (ltb 0 (64 * k + j) && bit P pointer b (1024 * s + (64 * k + j - 1)))
+      follows-is : (j : ℕ) → cond (eqb j 0) (on before 0) (bit P pointer b (64 * (pageBlocks * s + k) + (j - 1))) ≡ (ltb 0 (64 * k + j) && bit P pointer b (pageWords * s + (64 * k + j - 1)))
       follows-is j = go (eqb j 0) refl
         where
-          go : (c : Bool) → eqb j 0 ≡ c → cond c (on before 0) (bit P pointer b (64 * (16 * s + k) + (j - 1))) ≡ (ltb 0 (64 * k + j) && bit P pointer b (1024 * s + (64 * k + j - 1)))
+          go : (c : Bool) → eqb j 0 ≡ c → cond c (on before 0) (bit P pointer b (64 * (pageBlocks * s + k) + (j - 1))) ≡ (ltb 0 (64 * k + j) && bit P pointer b (pageWords * s + (64 * k + j - 1)))
           go true p =
               let e : 64 * k + j ≡ 64 * k = omega (arith, eqb-true j 0 p) in
               rw e (x .last)
           go false p =
-              let e : 64 * (16 * s + k) + (j - 1) ≡ 1024 * s + (64 * k + j - 1) = omega (arith, eqb-false j 0 p) in
+              let e : 64 * (pageBlocks * s + k) + (j - 1) ≡ pageWords * s + (64 * k + j - 1) = omega (arith, eqb-false j 0 p) in
               rw (e, lt-ltb 0 (64 * k + j) (omega (arith, eqb-false j 0 p)))
 
       pub block-words : {mark-mask gray-mask scan-mask : ℕ} {r : Bool} → mark-mask ≡ cond marks (2 ^ 64 - 1) 0 → gray-mask ≡ cond grays (2 ^ 64 - 1) 0 → scan-mask ≡ cond scan (2 ^ 64 - 1) 0 →
-          r ≡ allBelow 64 (blockRule P b (16 * s + k) mask off left before mark-mask gray-mask scan-mask) → r ≡ allBelow 64 (λ j. wordRule P b (1024 * s) size held marks grays scan (64 * k + j))
-      block-words f g h e = (rw (f, g, h) at e) ∙ all-cong 64 _ (λ j. wordRule P b (1024 * s) size held marks grays scan (64 * k + j)) word
+          r ≡ allBelow 64 (blockRule P b (pageBlocks * s + k) mask off left before mark-mask gray-mask scan-mask) → r ≡ allBelow 64 (λ j. wordRule P b (pageWords * s) size held marks grays scan (64 * k + j))
+      block-words f g h e = (rw (f, g, h) at e) ∙ all-cong 64 _ (λ j. wordRule P b (pageWords * s) size held marks grays scan (64 * k + j)) word
         where
-          word : (j : ℕ) → j < 64 → blockRule P b (16 * s + k) mask off left before (cond marks (2 ^ 64 - 1) 0) (cond grays (2 ^ 64 - 1) 0) (cond scan (2 ^ 64 - 1) 0) j ≡ wordRule P b (1024 * s) size held marks grays scan (64 * k + j)
+          word : (j : ℕ) → j < 64 → blockRule P b (pageBlocks * s + k) mask off left before (cond marks (2 ^ 64 - 1) 0) (cond grays (2 ^ 64 - 1) 0) (cond scan (2 ^ 64 - 1) 0) j ≡ wordRule P b (pageWords * s) size held marks grays scan (64 * k + j)
           word j l =
-              let e : 64 * (16 * s + k) + j ≡ 1024 * s + (64 * k + j) = omega arith in
+              let e : 64 * (pageBlocks * s + k) + j ≡ pageWords * s + (64 * k + j) = omega arith in
               rw (e, start-is j l, inside-is j, on-flag marks j l, on-flag grays j l, on-flag scan j l, follows-is j)
 
-      pub stands-next : 16 * s + k < 16 * P → (r : ℕ) → r < size → (r + 64) % size ≡ off → {ok : Bool} →
-          ok ≡ allBelow 64 (λ j. wordRule P b (1024 * s) size held marks grays scan (64 * k + j)) → ok ≡ true →
-          Stands P b s size held marks grays scan (k + 1) r (left - 64) (getD b ((3 * (16 * P) + 16 * s) + k) 0 / 2 ^ 63)
+      pub stands-next : pageBlocks * s + k < pageBlocks * P → (r : ℕ) → r < size → (r + 64) % size ≡ off → {ok : Bool} →
+          ok ≡ allBelow 64 (λ j. wordRule P b (pageWords * s) size held marks grays scan (64 * k + j)) → ok ≡ true →
+          Stands P b s size held marks grays scan (k + 1) r (left - 64) (getD b ((3 * (pageBlocks * P) + pageBlocks * s) + k) 0 / 2 ^ 63)
       stands-next h r l o e p = record {
         near = l;
         start = again;
         remains = omega (arith, x .remains);
         last = last;
-        done = more (wordRule P b (1024 * s) size held marks grays scan) k (x .done) e p;
+        done = more (wordRule P b (pageWords * s) size held marks grays scan) k (x .done) e p;
       }
         where
           again : (64 * (k + 1) + r) % size ≡ 0
@@ -122,7 +123,7 @@ module _ (P : ℕ) (b : List ℕ) (s size held : ℕ) (marks grays scan : Bool) 
               let e : 64 * (k + 1) + r ≡ 64 * k + (r + 64) = omega arith in
               rw (e, ← add-mod-mod (64 * k) (r + 64) size, o) (x .start)
 
-          last : on (getD b ((3 * (16 * P) + 16 * s) + k) 0 / 2 ^ 63) 0 ≡ (ltb 0 (64 * (k + 1)) && bit P pointer b (1024 * s + (64 * (k + 1) - 1)))
+          last : on (getD b ((3 * (pageBlocks * P) + pageBlocks * s) + k) 0 / 2 ^ 63) 0 ≡ (ltb 0 (64 * (k + 1)) && bit P pointer b (pageWords * s + (64 * (k + 1) - 1)))
           last =
-              let e : 64 * (16 * s + k) + 63 ≡ 1024 * s + (64 * (k + 1) - 1) = omega arith in
-              rw (lt-ltb 0 (64 * (k + 1)) (omega arith), ← e) (top-on (getD b ((3 * (16 * P) + 16 * s) + k) 0) ∙ part-on P b (16 * s + k) h pointer ((3 * (16 * P) + 16 * s) + k) 63 (omega arith) (omega arith))
+              let e : 64 * (pageBlocks * s + k) + 63 ≡ pageWords * s + (64 * (k + 1) - 1) = omega arith in
+              rw (lt-ltb 0 (64 * (k + 1)) (omega arith), ← e) (top-on (getD b ((3 * (pageBlocks * P) + pageBlocks * s) + k) 0) ∙ part-on P b (pageBlocks * s + k) h pointer ((3 * (pageBlocks * P) + pageBlocks * s) + k) 63 (omega arith) (omega arith))

@@ -4,7 +4,7 @@ use mathlib.Core.List.{List}
 use mathlib.Core.Logic.{_≢_}
 use mathlib.Core.Path.{_≡_}
 use lib.ListN.{length}
-use Rattle.model.specs.Memory.{maxPages, bitmapWords, entryNumbers}
+use Rattle.model.specs.Memory.{maxPages, bitmapWords, entryNumbers, unsweptFlag}
 use Rattle.model.specs.Spans.{owner, kindEntry}
 use Rattle.model.specs.Facts.{Spans, IsSpan}
 
@@ -22,7 +22,7 @@ pub record Lent (P : ℕ) (t b : List ℕ) : Type 0 where
 -- a legal phase, with unswept spans only in phase sweep
 pub record Phased (phase : ℕ) (t : List ℕ) : Type 0 where
   pub legal : phase ≤ 2
-  pub swept : phase ≢ 2 → (s : ℕ) → IsSpan t s → kindEntry t s < 256
+  pub swept : phase ≢ 2 → (s : ℕ) → IsSpan t s → kindEntry t s < unsweptFlag
 
 -- a span of so many pages from page s on lies in the arena, and its elements have words
 pub record Shaped (P s count size : ℕ) : Type 0 where

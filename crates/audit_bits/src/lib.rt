@@ -8,7 +8,7 @@ ghost use Prim.Native.Nat.{ℕ, _+_, _-_, _*_, _^_, _<_};
 ghost use lib.Dec.{T};
 ghost use lib.ListN.{length};
 ghost use Rattle.model.specs.Bounded.{_==_, _<?_, _≤?_, allBelow};
-ghost use Rattle.model.specs.Memory.{entryNumbers, mark};
+ghost use Rattle.model.specs.Memory.{entryNumbers, mark, pageWords, pageBlocks, unsweptFlag};
 ghost use Rattle.model.specs.Spans.{pageCount};
 ghost use Rattle.model.specs.Facts.{IsSpan};
 ghost use Rattle.model.specs.Facts.{Bits, Phases, Occupied};
@@ -74,7 +74,7 @@ fn behind(left: usize) -> usize
 
 // Block `at` has no bit in any part.
 fn empty(p: usize, bits: &[u64], at: usize) -> bool
-    requires { ⌜ Bitmaps p (now bits) × (at < 16 * p) ⌝ }
+    requires { ⌜ Bitmaps p (now bits) × (at < pageBlocks * p) ⌝ }
     ensures { λ r. ⌜ r ≡ allBelow 64 (λ j. bare p (now (bits .entry)) (64 * at + j)) ⌝ }
 {
     let part = PAGE_BLOCKS * p;
@@ -94,7 +94,7 @@ fn block_ok(
     grays: u64,
     scans: u64,
 ) -> bool
-    requires { ⌜ Bitmaps p (now bits) × (at < 16 * p) ⌝ }
+    requires { ⌜ Bitmaps p (now bits) × (at < pageBlocks * p) ⌝ }
     ensures { λ r. ⌜ r ≡ allBelow 64 (blockRule p (now (bits .entry)) at starts off left before marks grays scans) ⌝ }
 {
     if empty(p, bits, at) {
@@ -130,7 +130,7 @@ fn blocks_ok(
     scan: bool,
 ) -> bool
     requires { ⌜ Bitmaps p (now bits) × Shaped p s count size ⌝ }
-    ensures { λ r. ⌜ r ≡ allBelow (64 * (16 * count)) (wordRule p (now (bits .entry)) (1024 * s) size held marks grays scan) ⌝ }
+    ensures { λ r. ⌜ r ≡ allBelow (64 * (pageBlocks * count)) (wordRule p (now (bits .entry)) (pageWords * s) size held marks grays scan) ⌝ }
 {
     let marked = flag(marks);
     let gray = flag(grays);
@@ -162,7 +162,7 @@ fn blocks_ok(
 // Page g, a free one, has no bit in any part.
 fn free_page_ok(p: usize, bits: &[u64], g: usize) -> bool
     requires { ⌜ Bitmaps p (now bits) × (g < p) ⌝ }
-    ensures { λ r. ⌜ r ≡ allBelow (64 * 16) (λ o. bare p (now (bits .entry)) (1024 * g + o)) ⌝ }
+    ensures { λ r. ⌜ r ≡ allBelow (64 * pageBlocks) (λ o. bare p (now (bits .entry)) (pageWords * g + o)) ⌝ }
 {
     let first = PAGE_BLOCKS * g;
     let mut k = 0;
@@ -178,7 +178,7 @@ fn free_page_ok(p: usize, bits: &[u64], g: usize) -> bool
 
 // Marks may stand in a span with this entry of the kind.
 fn marks_stand(phase: u64, entry: usize) -> bool
-    ensures { λ r. ⌜ r ≡ marksStand phase (256 ≤? entry) ⌝ }
+    ensures { λ r. ⌜ r ≡ marksStand phase (unsweptFlag ≤? entry) ⌝ }
 {
     if phase == MARK {
         return true;
@@ -202,7 +202,7 @@ fn grays_stand(phase: u64, scan: bool) -> bool
 // The bits of the span at page s keep the rules.
 pub fn span_bits_ok(p: usize, table: &[u32], bits: &[u64], phase: u64, s: usize) -> bool
     requires { ⌜ Lent p (now table) (now bits) × IsSpan (now table) s ⌝ }
-    ensures { λ r. ⌜ r ≡ allBelow (64 * (16 * pageCount (now (table .entry)) s)) (spanRule p phase (now (table .entry)) (now (bits .entry)) s) ⌝ }
+    ensures { λ r. ⌜ r ≡ allBelow (64 * (pageBlocks * pageCount (now (table .entry)) s)) (spanRule p phase (now (table .entry)) (now (bits .entry)) s) ⌝ }
 {
     let count = page_count(table, s);
     let entry = kind_entry(table, s);
@@ -229,7 +229,7 @@ fn stretch(table: &[u32], g: usize) -> usize
 // The bits of page g, a free one, or of the span that starts there, keep the rules.
 fn stretch_ok(p: usize, table: &[u32], bits: &[u64], phase: u64, g: usize) -> bool
     requires { ⌜ Lent p (now table) (now bits) × Phased phase (now table) × Begins p (now table) g ⌝ }
-    ensures { λ r. ⌜ T r ↔ GoodWords p phase (now (table .entry)) (now (bits .entry)) (1024 * g) (1024 * (g + stretch (now (table .entry)) g)) ⌝ }
+    ensures { λ r. ⌜ T r ↔ GoodWords p phase (now (table .entry)) (now (bits .entry)) (pageWords * g) (pageWords * (g + stretch (now (table .entry)) g)) ⌝ }
 {
     if owner(table, g) == 0 {
         return free_page_ok(p, bits, g);

@@ -9,7 +9,8 @@ use native.Mathlib.Omega.{arith}
 use lib.Dec.{T, eqb, ltb, leb}
 use lib.ListN.{length, List·getD-eq-default}
 use borrow.Author.Tests.{ltb-true, ltb-false, eqb-true, eqb-false}
-use Rattle.model.specs.Classes.{classPages}
+use Rattle.model.specs.Memory.{firstGlobal, entryNumbers, unsweptFlag}
+use Rattle.model.specs.Classes.{classPages, kinds, fewestLarge, mostLarge}
 use Rattle.model.specs.Spans.{owner, pageCount, kindEntry}
 use Rattle.model.proofs.Tests.{eqb-iff, leb-iff}
 use Rattle.model.specs.Facts.{IsSpan, GoodEntry}
@@ -18,13 +19,13 @@ use Rattle.model.proofs.Answers.{no}
 use Rattle.audit_pages.specs.Pages.{Pages, Further, Body, First, Step}
 
 -- the entry of a span's first page: of a class with a page count of its own, of class 0
-module _ (kind count : ℕ) (f : kind < 512) (k : kind % 256 < 134) where
-  pub class-entry : (pages : ℕ) → kind % 256 / 2 ≢ 0 → pages ≡ classPages (kind % 256 / 2) → T (eqb count pages) ↔ GoodEntry kind count
+module _ (kind count : ℕ) (f : kind < firstGlobal) (k : kind % unsweptFlag < kinds) where
+  pub class-entry : (pages : ℕ) → kind % unsweptFlag / 2 ≢ 0 → pages ≡ classPages (kind % unsweptFlag / 2) → T (eqb count pages) ↔ GoodEntry kind count
   class-entry pages d e =
       (λ x. record { flag = f; kind = k; large = λ z. absurd (d z); small = λ _. eqb-iff count pages .0 x ∙ e }, λ G. eqb-iff count pages .1 (G .small d ∙ sym e))
 
-  pub large-entry : kind % 256 / 2 ≡ 0 → 5 ≤ count → T (leb count 128) ↔ GoodEntry kind count
-  large-entry z l = (λ x. record { flag = f; kind = k; large = λ _. (l, leb-iff count 128 .0 x); small = λ d. absurd (d z) }, λ G. leb-iff count 128 .1 (G .large z .1))
+  pub large-entry : kind % unsweptFlag / 2 ≡ 0 → fewestLarge ≤ count → T (leb count mostLarge) ↔ GoodEntry kind count
+  large-entry z l = (λ x. record { flag = f; kind = k; large = λ _. (l, leb-iff count mostLarge .0 x); small = λ d. absurd (d z) }, λ G. leb-iff count mostLarge .1 (G .large z .1))
 
 -- page g, of whose numbers the first two are right
 pub further-iff : (t : List ℕ) (s g : ℕ) → owner t g ≡ s + 1 → pageCount t g ≡ 0 → T (eqb (kindEntry t g) 0) ↔ Further t s g
@@ -57,10 +58,10 @@ module _ (p ph : ℕ) (t : List ℕ) (s kind count : ℕ) (k : kind ≡ kindEntr
   pub bad-entry : (b : Bool) → T b ↔ GoodEntry kind count → not b ≡ true → First p ph t s → ⊥
   bad-entry b f e F = no b f e (rw (k, n) (F .entry))
 
-  pub bad-flag : (b : Bool) → T b ↔ (ph ≢ 2 → kind < 256) → not b ≡ true → First p ph t s → ⊥
+  pub bad-flag : (b : Bool) → T b ↔ (ph ≢ 2 → kind < unsweptFlag) → not b ≡ true → First p ph t s → ⊥
   bad-flag b f e F = no b f e (λ d. rw k (F .swept d))
 
-  pub first-iff : (b : Bool) → GoodEntry kind count → s + count ≤ p → (ph ≢ 2 → kind < 256) → T b ↔ Body t s → T b ↔ First p ph t s
+  pub first-iff : (b : Bool) → GoodEntry kind count → s + count ≤ p → (ph ≢ 2 → kind < unsweptFlag) → T b ↔ Body t s → T b ↔ First p ph t s
   first-iff b e i d f =
       (λ x. record { entry = rw (k, n) at e; inside = rw n at i; body = f .0 x; swept = λ q. rw k at (d q) }, λ F. f .1 (F .body))
 
@@ -169,12 +170,12 @@ module _ (p ph : ℕ) (t : List ℕ) where
             omega (arith, x .1, w .2)
 
   -- a page past the end reads as free
-  past : length t ≡ 3 * p → (g : ℕ) → p ≤ g → (owner t g ≡ 0) × (pageCount t g ≡ 0) × (kindEntry t g ≡ 0)
+  past : length t ≡ entryNumbers * p → (g : ℕ) → p ≤ g → (owner t g ≡ 0) × (pageCount t g ≡ 0) × (kindEntry t g ≡ 0)
   unfolding owner pageCount kindEntry
   past z g l = (List·getD-eq-default t 0 (omega arith), List·getD-eq-default t 0 (omega arith), List·getD-eq-default t 0 (omega arith))
 
   -- the end
-  pub whole : length t ≡ 3 * p → Upto p ph t p → Pages p ph t
+  pub whole : length t ≡ entryNumbers * p → Upto p ph t p → Pages p ph t
   whole z U = record {
     spans = record {
       whose = λ g u. U .whose g (used g u) u;

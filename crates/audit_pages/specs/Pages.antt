@@ -3,13 +3,14 @@ use Prim.Native.Nat.{ℕ, _+_, _<_, _≤_}
 use mathlib.Core.List.{List}
 use mathlib.Core.Logic.{_≢_}
 use mathlib.Core.Path.{_≡_}
+use Rattle.model.specs.Memory.{unsweptFlag}
 use Rattle.model.specs.Spans.{owner, pageCount, kindEntry}
 use Rattle.model.specs.Facts.{Spans, IsSpan, GoodEntry}
 
 -- the page table of p pages is as the document says, and "unswept only in phase sweep"
 pub record Pages (p ph : ℕ) (t : List ℕ) : Type 0 where
   pub spans : Spans p t
-  pub swept : ph ≢ 2 → (s : ℕ) → IsSpan t s → kindEntry t s < 256
+  pub swept : ph ≢ 2 → (s : ℕ) → IsSpan t s → kindEntry t s < unsweptFlag
 
 -- page g is a further page of the span at page s: "s+1, 0, 0"
 pub record Further (t : List ℕ) (s g : ℕ) : Type 0 where
@@ -26,7 +27,7 @@ pub record First (p ph : ℕ) (t : List ℕ) (s : ℕ) : Type 0 where
   pub entry : GoodEntry (kindEntry t s) (pageCount t s)
   pub inside : s + pageCount t s ≤ p
   pub body : Body t s
-  pub swept : ph ≢ 2 → kindEntry t s < 256
+  pub swept : ph ≢ 2 → kindEntry t s < unsweptFlag
 
 -- from page g on n pages are passed, a free page or a whole span; 0 is a fault
 pub record Step (p ph : ℕ) (t : List ℕ) (g n : ℕ) : Type 0 where

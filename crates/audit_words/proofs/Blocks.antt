@@ -11,6 +11,7 @@ use lib.Dec.{T, eqb, ltb}
 use lib.ListN.{getD}
 use lib.Pow.{pow-pos}
 use borrow.Author.Tests.{ltb-true, ltb-false, lt-leb, eqb-true, eqb-false}
+use Rattle.model.specs.Memory.{pageWords, pageBlocks, unsweptFlag}
 use Rattle.model.specs.Bitmaps.{bitOf, bitAt, withBitOf, allocated, pointer}
 use Rattle.model.specs.Spans.{pageCount, kindEntry, spanOf, elementOf, elementWords}
 use Rattle.model.proofs.Tests.{is-true, clash}
@@ -96,15 +97,15 @@ module _ (p : ℕ) (a t b : List ℕ) (at pointers : ℕ) where
       go (inr y) = y
 
 -- the pointer bits of block `at` are one bitmap word
-block-bit : (p : ℕ) (b : List ℕ) (at j : ℕ) → at < 16 * p → j < 64 → bit p pointer b (64 * at + j) ≡ eqb (bitOf (getD b (3 * (16 * p) + at) 0) j) 1
+block-bit : (p : ℕ) (b : List ℕ) (at j : ℕ) → at < pageBlocks * p → j < 64 → bit p pointer b (64 * at + j) ≡ eqb (bitOf (getD b (3 * (pageBlocks * p) + at) 0) j) 1
 unfolding bitAt
 block-bit p b at j h l =
-    let d : (3 * (1024 * p) + (64 * at + j)) / 64 ≡ 3 * (16 * p) + at = omega arith in
-    let m : (3 * (1024 * p) + (64 * at + j)) % 64 ≡ j = omega arith in
-    bit-in (1024 * p) pointer b (64 * at + j) (omega arith) ∙ rw (d, m)
+    let d : (3 * (pageWords * p) + (64 * at + j)) / 64 ≡ 3 * (pageBlocks * p) + at = omega arith in
+    let m : (3 * (pageWords * p) + (64 * at + j)) % 64 ≡ j = omega arith in
+    bit-in (pageWords * p) pointer b (64 * at + j) (omega arith) ∙ rw (d, m)
 
 module _ (p : ℕ) (a t b : List ℕ) where
-  pub blocks-more : (from k : ℕ) → k < 16 * p → Blocks p a t b from k → Block p a t b k (getD b (3 * (16 * p) + k) 0) → Blocks p a t b from (k + 1)
+  pub blocks-more : (from k : ℕ) → k < pageBlocks * p → Blocks p a t b from k → Block p a t b k (getD b (3 * (pageBlocks * p) + k) 0) → Blocks p a t b from (k + 1)
   blocks-more from k h B C w l m x = go (ltb w (64 * k)) refl
     where
       go : (c : Bool) → ltb w (64 * k) ≡ c → Reference p t b (getD a w 0)
@@ -115,30 +116,30 @@ module _ (p : ℕ) (a t b : List ℕ) where
           let y : T (bit p pointer b (64 * k + (w - 64 * k))) = rw z x in
           rw z at (C (w - 64 * k) (omega arith) (rw (block-bit p b k (w - 64 * k) h (omega arith)) at y))
 
-  pub blocks-block : (from to k : ℕ) → from ≤ k → k < to → to ≤ 16 * p → Blocks p a t b from to → Block p a t b k (getD b (3 * (16 * p) + k) 0)
+  pub blocks-block : (from to k : ℕ) → from ≤ k → k < to → to ≤ pageBlocks * p → Blocks p a t b from to → Block p a t b k (getD b (3 * (pageBlocks * p) + k) 0)
   blocks-block from to k l m h B j n x = B (64 * k + j) (omega arith) (omega arith) (rw (block-bit p b k j (omega arith) n) x)
 
 module _ (p : ℕ) (a t b : List ℕ) (F : Filled p a t b) where
   -- in a swept span what is allocated is kept
-  kept-swept : (w : ℕ) → kindEntry t (spanOf t w) < 256 → T (bit p allocated b w) → T (keptAt p t b w)
-  kept-swept w l x = rw (lt-leb 256 (kindEntry t (spanOf t w)) l) x
+  kept-swept : (w : ℕ) → kindEntry t (spanOf t w) < unsweptFlag → T (bit p allocated b w) → T (keptAt p t b w)
+  kept-swept w l x = rw (lt-leb unsweptFlag (kindEntry t (spanOf t w)) l) x
 
   -- .. and each pointer bit belongs to a kept element
-  pub swept-span : (s : ℕ) → IsSpan t s → kindEntry t s < 256 → Blocks p a t b (16 * s) (16 * s + 16 * pageCount t s) ↔ SpanContents p a t b s
+  pub swept-span : (s : ℕ) → IsSpan t s → kindEntry t s < unsweptFlag → Blocks p a t b (pageBlocks * s) (pageBlocks * s + pageBlocks * pageCount t s) ↔ SpanContents p a t b s
   swept-span s i k = (there, back)
     where
-      there : Blocks p a t b (16 * s) (16 * s + 16 * pageCount t s) → SpanContents p a t b s
+      there : Blocks p a t b (pageBlocks * s) (pageBlocks * s + pageBlocks * pageCount t s) → SpanContents p a t b s
       there B w l m x f n y =
           let E = F .set .element w (kept-allocated (F .set) w x) in
           let e = at-home (F .spanned .spans) s w i l m .1 in
           B (w + f) (omega arith) (omega (arith, rw e at (whole (F .spanned .spans) w E .0))) y
 
-      back : SpanContents p a t b s → Blocks p a t b (16 * s) (16 * s + 16 * pageCount t s)
+      back : SpanContents p a t b s → Blocks p a t b (pageBlocks * s) (pageBlocks * s + pageBlocks * pageCount t s)
       back g w l m y =
           let f = F .set .pointers w y in
           let e = at-home (F .spanned .spans) s w i (omega arith) (omega arith) .1 in
           let r = round (F .spanned .spans) w (f .0 .used) in
-          let low : 1024 * s ≤ elementOf t w = rw (← e) (r .0) in
+          let low : pageWords * s ≤ elementOf t w = rw (← e) (r .0) in
           let h = at-home (F .spanned .spans) s (elementOf t w) i low (omega (arith, r .1)) .1 in
           let z : elementOf t w + (w - elementOf t w) ≡ w = omega (arith, r .1) in
           rw z at (g (elementOf t w) low (omega (arith, r .1)) (kept-swept (elementOf t w) (rw h k) (f .2)) (w - elementOf t w) (omega (arith, r .1, r .2, ap (elementWords t) e)) (rw z y))

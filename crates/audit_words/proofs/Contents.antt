@@ -7,6 +7,8 @@ use native.Mathlib.Omega.{arith}
 use lib.Dec.{T, eqb, ltb}
 use lib.ListN.{getD}
 use borrow.Author.Tests.{ltb-true, ltb-false, eqb-true, eqb-false}
+use Rattle.model.specs.Classes.{rows, mostLarge}
+use Rattle.model.specs.Memory.{pageWords, unsweptFlag}
 use Rattle.model.specs.Bounded.{firstBelow}
 use Rattle.model.specs.Bitmaps.{bitAt, pointer}
 use Rattle.model.specs.Spans.{pageCount, kindEntry, isScan, spanOf, elementOf, elementWords}
@@ -50,19 +52,19 @@ module _ (p : ℕ) (a t b : List ℕ) (F : Filled p a t b) where
   -- the kept elements of the span at page s
 
   -- what its entry gives
-  pub searched : (s n from end : ℕ) → IsSpan t s → n ≡ elementWords t s → from ≡ keptFrom p (kindEntry t s) → end ≡ from + 1024 * (s + pageCount t s) → Searched p t s n from end
+  pub searched : (s n from end : ℕ) → IsSpan t s → n ≡ elementWords t s → from ≡ keptFrom p (kindEntry t s) → end ≡ from + pageWords * (s + pageCount t s) → Searched p t s n from end
   searched s n from end i size start stop =
       record { span = i; size = size; start = start; stop = stop; low = omega (arith, from-bound p (kindEntry t s)); inside = F .spanned .spans .inside s i }
 
-  pub class-fits : (s : ℕ) → IsSpan t s → (kindEntry t s % 256 / 2 ≤ 66) × (pageCount t s ≤ 128) × (s + pageCount t s ≤ p)
+  pub class-fits : (s : ℕ) → IsSpan t s → (kindEntry t s % unsweptFlag / 2 ≤ rows) × (pageCount t s ≤ mostLarge) × (s + pageCount t s ≤ p)
   class-fits s i = let e = F .spanned .spans .entry s i in (omega (arith, e .kind), fits (F .spanned .spans) s i .short, F .spanned .spans .inside s i)
 
   module _ (s n from end : ℕ) (S : Searched p t s n from end) where
-    kept-bit : (w : ℕ) → 1024 * s ≤ w → from + w < end → bitAt b (from + w) ≡ keptAt p t b w
+    kept-bit : (w : ℕ) → pageWords * s ≤ w → from + w < end → bitAt b (from + w) ≡ keptAt p t b w
     kept-bit w l m = kept-is p t b s w from (at-home (F .spanned .spans) s w (S .span) l (omega (arith, S .stop)) .1) (S .start) (omega (arith, S .stop, S .inside))
 
     -- the first bit from `at` on is j, or `end`
-    module _ (at j : ℕ) (low : from + 1024 * s ≤ at) (found : j ≡ at + firstBelow (end - at) (λ k. bitAt b (at + k))) (h : Below p a t b s n from end at) where
+    module _ (at j : ℕ) (low : from + pageWords * s ≤ at) (found : j ≡ at + firstBelow (end - at) (λ k. bitAt b (at + k))) (h : Below p a t b s n from end at) where
       passed : Below p a t b s n from end j
       passed w l m q x = go (ltb (from + w) at) refl
         where
@@ -80,7 +82,7 @@ module _ (p : ℕ) (a t b : List ℕ) (F : Filled p a t b) where
           go false e = passed w l (omega (arith, eqb-false (from + w) j e)) q x
 
     -- .. and is set
-    module _ (at j : ℕ) (low : from + 1024 * s ≤ at) (found : j ≡ at + firstBelow (end - at) (λ k. bitAt b (at + k))) (l : j < end) where
+    module _ (at j : ℕ) (low : from + pageWords * s ≤ at) (found : j ≡ at + firstBelow (end - at) (λ k. bitAt b (at + k))) (l : j < end) where
       found-kept : T (keptAt p t b (j - from))
       found-kept =
           let z : from + (j - from) ≡ j = omega arith in

@@ -8,6 +8,7 @@ use native.Mathlib.Omega.{arith}
 use lib.Dec.{ltb}
 use lib.ListN.{getD}
 use borrow.Author.Tests.{ltb-true, ltb-false}
+use Rattle.model.specs.Memory.{slotCount, firstState, pageBlocks}
 use Rattle.model.specs.Facts.{Reference, States}
 use Rattle.audit_words.specs.Contents.{Range}
 
@@ -22,7 +23,7 @@ module _ (p : ℕ) (t b r : List ℕ) where
   pub range-more : (from k : ℕ) → Range p t b r from k → Reference p t b (getD r k 0) → Range p t b r from (k + 1)
   range-more from k A x = range-join from k (k + 1) A (λ i l m. let z : k ≡ i = omega arith in rw z at x)
 
-  pub closed-range : States r → (s : ℕ) → s < 16 → getD r (544 + s) 0 ≡ 0 → Range p t b r (32 * s) (32 * s + 32)
+  pub closed-range : States r → (s : ℕ) → s < pageBlocks → getD r (firstState + s) 0 ≡ 0 → Range p t b r (slotCount * s) (slotCount * s + slotCount)
   closed-range S s l e i h m =
-      let z : 32 * s + (i - 32 * s) ≡ i = omega arith in
-      inl (rw z at (S .closed s (i - 32 * s) l (omega arith) e))
+      let z : slotCount * s + (i - slotCount * s) ≡ i = omega arith in
+      inl (rw z at (S .closed s (i - slotCount * s) l (omega arith) e))

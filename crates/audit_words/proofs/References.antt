@@ -7,7 +7,7 @@ use mathlib.Core.Path.{_≡_, refl, sym, _∙_}
 use native.Mathlib.Omega.{arith}
 use lib.Dec.{T, eqb, leb}
 use borrow.Author.Tests.{eqb-true, eqb-false, le-leb, lt-leb}
-use Rattle.model.specs.Memory.{addressOf, wordOf}
+use Rattle.model.specs.Memory.{addressOf, wordOf, pageWords, unsweptFlag}
 use Rattle.model.specs.Bitmaps.{bitAt, allocated, marked, pointer}
 use Rattle.model.specs.Spans.{owner, kindEntry, isScan, spanOf}
 use Rattle.model.proofs.Tests.{eqb-iff}
@@ -17,56 +17,56 @@ use Rattle.model.proofs.Facts.{swept-all}
 use Rattle.audit_words.specs.Contents.{Swept, keptFrom}
 
 -- the span of a word of the arena; page 0 where there is none
-pub span-below : {p : ℕ} {t : List ℕ} → Spans p t → (w : ℕ) → w < 1024 * p → spanOf t w < p
-span-below {p} {t} F w l = go (eqb (owner t (w / 1024)) 0) refl
+pub span-below : {p : ℕ} {t : List ℕ} → Spans p t → (w : ℕ) → w < pageWords * p → spanOf t w < p
+span-below {p} {t} F w l = go (eqb (owner t (w / pageWords)) 0) refl
   where
-    go : (b : Bool) → eqb (owner t (w / 1024)) 0 ≡ b → spanOf t w < p
-    go true e = omega (arith, eqb-true (owner t (w / 1024)) 0 e)
-    go false e = omega (arith, F .whose (w / 1024) (omega (arith, eqb-false (owner t (w / 1024)) 0 e)) .1)
+    go : (b : Bool) → eqb (owner t (w / pageWords)) 0 ≡ b → spanOf t w < p
+    go true e = omega (arith, eqb-true (owner t (w / pageWords)) 0 e)
+    go false e = omega (arith, F .whose (w / pageWords) (omega (arith, eqb-false (owner t (w / pageWords)) 0 e)) .1)
 
 -- the bit that says whether an element is kept
-pub kept-is : (p : ℕ) (t b : List ℕ) (s w from : ℕ) → spanOf t w ≡ s → from ≡ keptFrom p (kindEntry t s) → w < 1024 * p → bitAt b (from + w) ≡ keptAt p t b w
-kept-is p t b s w from e f l = rw (f, ← e) (go (leb 256 (kindEntry t (spanOf t w))))
+pub kept-is : (p : ℕ) (t b : List ℕ) (s w from : ℕ) → spanOf t w ≡ s → from ≡ keptFrom p (kindEntry t s) → w < pageWords * p → bitAt b (from + w) ≡ keptAt p t b w
+kept-is p t b s w from e f l = rw (f, ← e) (go (leb unsweptFlag (kindEntry t (spanOf t w))))
   where
-    go : (u : Bool) → bitAt b (cond u (1024 * p) 0 + w) ≡ cond u (bit p marked b w) (bit p allocated b w)
-    go true = sym (bit-in (1024 * p) marked b w l)
-    go false = let z : 0 + w ≡ w = omega arith in rw z (sym (bit-in (1024 * p) allocated b w l))
+    go : (u : Bool) → bitAt b (cond u (pageWords * p) 0 + w) ≡ cond u (bit p marked b w) (bit p allocated b w)
+    go true = sym (bit-in (pageWords * p) marked b w l)
+    go false = let z : 0 + w ≡ w = omega arith in rw z (sym (bit-in (pageWords * p) allocated b w l))
 
 -- .. which is the allocated one where no span is unswept
-pub kept-told : {p : ℕ} {t : List ℕ} → Spans p t → Swept t → (b : List ℕ) (w : ℕ) → w < 1024 * p → bitAt b w ≡ keptAt p t b w
-kept-told {p} {t} F Q b w l = rw (swept-all F Q (spanOf t w)) (sym (bit-in (1024 * p) allocated b w l))
+pub kept-told : {p : ℕ} {t : List ℕ} → Spans p t → Swept t → (b : List ℕ) (w : ℕ) → w < pageWords * p → bitAt b w ≡ keptAt p t b w
+kept-told {p} {t} F Q b w l = rw (swept-all F Q (spanOf t w)) (sym (bit-in (pageWords * p) allocated b w l))
 
 -- where it stands: past all allocated bits, or not
-pub from-unswept : (p kind : ℕ) → 256 ≤ kind → 1024 * p ≡ keptFrom p kind
-from-unswept p kind h = rw (le-leb 256 kind h)
+pub from-unswept : (p kind : ℕ) → unsweptFlag ≤ kind → pageWords * p ≡ keptFrom p kind
+from-unswept p kind h = rw (le-leb unsweptFlag kind h)
 
-pub from-swept : (p kind : ℕ) → kind < 256 → 0 ≡ keptFrom p kind
-from-swept p kind h = rw (lt-leb 256 kind h)
+pub from-swept : (p kind : ℕ) → kind < unsweptFlag → 0 ≡ keptFrom p kind
+from-swept p kind h = rw (lt-leb unsweptFlag kind h)
 
-pub from-bound : (p kind : ℕ) → keptFrom p kind ≤ 1024 * p
-from-bound p kind = go (leb 256 kind)
+pub from-bound : (p kind : ℕ) → keptFrom p kind ≤ pageWords * p
+from-bound p kind = go (leb unsweptFlag kind)
   where
-    go : (u : Bool) → cond u (1024 * p) 0 ≤ 1024 * p
+    go : (u : Bool) → cond u (pageWords * p) 0 ≤ pageWords * p
     go true = omega arith
     go false = omega arith
 
-pub kept-inside : (p : ℕ) (t b : List ℕ) (w : ℕ) → T (keptAt p t b w) → w < 1024 * p
+pub kept-inside : (p : ℕ) (t b : List ℕ) (w : ℕ) → T (keptAt p t b w) → w < pageWords * p
 kept-inside p t b w = go (unsweptAt t w)
   where
-    go : (u : Bool) → T (cond u (bit p marked b w) (bit p allocated b w)) → w < 1024 * p
-    go true x = bit-inside (1024 * p) marked b w x
-    go false x = bit-inside (1024 * p) allocated b w x
+    go : (u : Bool) → T (cond u (bit p marked b w) (bit p allocated b w)) → w < pageWords * p
+    go true x = bit-inside (pageWords * p) marked b w x
+    go false x = bit-inside (pageWords * p) allocated b w x
 
 -- the pointer bit of word f of an element
-pub pointer-is : (p : ℕ) (b : List ℕ) (w f at : ℕ) → at ≡ 3 * (1024 * p) + w + f → w + f < 1024 * p → bitAt b at ≡ bit p pointer b (w + f)
+pub pointer-is : (p : ℕ) (b : List ℕ) (w f at : ℕ) → at ≡ 3 * (pageWords * p) + w + f → w + f < pageWords * p → bitAt b at ≡ bit p pointer b (w + f)
 pointer-is p b w f at e l =
-    let z : at ≡ 3 * (1024 * p) + (w + f) = omega arith in
-    rw z (sym (bit-in (1024 * p) pointer b (w + f) l))
+    let z : at ≡ 3 * (pageWords * p) + (w + f) = omega arith in
+    rw z (sym (bit-in (pageWords * p) pointer b (w + f) l))
 
 -- a scan span starts at page s
 pub scan-iff : (t : List ℕ) (s kind : ℕ) → IsSpan t s → kind ≡ kindEntry t s → T (eqb (kind % 2) 0) ↔ (IsSpan t s × T (isScan t s))
 scan-iff t s kind i e =
-    (λ x. (i, eqb-iff (kindEntry t s % 256 % 2) 0 .1 (omega (arith, eqb-iff (kind % 2) 0 .0 x))), λ h. eqb-iff (kind % 2) 0 .1 (omega (arith, eqb-iff (kindEntry t s % 256 % 2) 0 .0 (h .1))))
+    (λ x. (i, eqb-iff (kindEntry t s % unsweptFlag % 2) 0 .1 (omega (arith, eqb-iff (kind % 2) 0 .0 x))), λ h. eqb-iff (kind % 2) 0 .1 (omega (arith, eqb-iff (kindEntry t s % unsweptFlag % 2) 0 .0 (h .1))))
 
 pub not-nil : (v : ℕ) (n : Bool) → n ≡ eqb v 0 → n ≡ false → v ≢ 0
 not-nil v n e q = eqb-false v 0 (sym e ∙ q)
@@ -81,7 +81,7 @@ module _ (p : ℕ) (t b : List ℕ) (v : ℕ) where
   no-address d true e q (inr x) = mathlib.Core.Bool.true≢false (sym q)
   no-address d false e q (inr x) = eqb-false v (addressOf (wordOf v)) (sym e) (x .0)
 
-  pub past-arena : v ≢ 0 → 1024 * p ≤ wordOf v → Reference p t b v → ⊥
+  pub past-arena : v ≢ 0 → pageWords * p ≤ wordOf v → Reference p t b v → ⊥
   past-arena d l (inl z) = d z
   past-arena d l (inr x) = omega (arith, kept-inside p t b (wordOf v) (x .1))
 

@@ -8,7 +8,7 @@ ghost use mathlib.Core.Logic.{_↔_};
 ghost use Prim.Native.Nat.{_+_, _*_, _<_, _≤_};
 ghost use lib.Dec.{T};
 ghost use lib.ListN.{length};
-ghost use Rattle.model.specs.Memory.{maxPages, pageWords, entryNumbers, rootWords, firstGlobal};
+ghost use Rattle.model.specs.Memory.{maxPages, pageWords, entryNumbers, rootWords, firstGlobal, pageBlocks};
 ghost use Rattle.model.specs.Spans.{isScan};
 ghost use Rattle.model.specs.Facts.{IsSpan};
 ghost use Rattle.model.specs.Facts.{Reference, States, keptAt};
@@ -134,7 +134,7 @@ fn block_ok(
     at: usize,
     pointers: u64,
 ) -> bool
-    requires { ⌜ Filled p (now arena) (now table) (now bits) × Told swept (now table) × (at < 16 * p) ⌝ }
+    requires { ⌜ Filled p (now arena) (now table) (now bits) × Told swept (now table) × (at < pageBlocks * p) ⌝ }
     ensures { λ r. ⌜ (T r ↔ Block p (now (arena .entry)) (now (table .entry)) (now (bits .entry)) at pointers) ⌝ }
 {
     let first = WORD_BITS * at;
@@ -160,7 +160,7 @@ fn blocks_ok(
     from: usize,
     to: usize,
 ) -> bool
-    requires { ⌜ Filled p (now arena) (now table) (now bits) × Told swept (now table) × (from ≤ to) × (to ≤ 16 * p) ⌝ }
+    requires { ⌜ Filled p (now arena) (now table) (now bits) × Told swept (now table) × (from ≤ to) × (to ≤ pageBlocks * p) ⌝ }
     ensures { λ r. ⌜ (T r ↔ Blocks p (now (arena .entry)) (now (table .entry)) (now (bits .entry)) from to) ⌝ }
 {
     let part = PARTS_BEFORE * (PAGE_BLOCKS * p);

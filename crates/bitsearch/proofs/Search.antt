@@ -7,6 +7,7 @@ use native.Mathlib.Omega.{arith}
 use lib.Bits.{bitAnd}
 use lib.Count.{trailingZeros}
 use lib.ListN.{getD}
+use Rattle.model.specs.Memory.{pageWords, pageBlocks}
 use Rattle.model.specs.Bitmaps.{bitAt, allocated, marked}
 use Rattle.model.proofs.Bitmaps.{bit-in}
 use Rattle.bitmap.proofs.Scan.{Word, None, Passed, word-at, word-and, word-not}
@@ -15,16 +16,16 @@ use Rattle.bitsearch.specs.Freed.{isFreed}
 
 -- the word of freed bits, of bitmaps of p pages
 module _ (p : ℕ) (b : List ℕ) (fit : (x : ℕ) → getD b x 0 < 2 ^ 64) where
-  freed-word : (at : ℕ) → at < 16 * p → Word at (isFreed p b) (bitAnd (getD b at 0) ((2 ^ 64 - 1) - getD b (16 * p + at) 0))
+  freed-word : (at : ℕ) → at < pageBlocks * p → Word at (isFreed p b) (bitAnd (getD b at 0) ((2 ^ 64 - 1) - getD b (pageBlocks * p + at) 0))
   freed-word at h j l =
       let i = at * 64 + j in
-      let m : Word at (λ i. bitAt b (1024 * p + i)) (getD b (16 * p + at) 0) =
-      λ k q. word-at b (16 * p + at) k q ∙ ap (λ x. cond (bitAt b x) 1 0) (omega arith) in
-      rw (bit-in (1024 * p) allocated b i (omega arith), bit-in (1024 * p) marked b i (omega arith))
-      (word-and at (bitAt b) (λ i. not (bitAt b (1024 * p + i))) _ _ (word-at b at) (word-not at (λ i. bitAt b (1024 * p + i)) _ (fit (16 * p + at)) m) j l)
+      let m : Word at (λ i. bitAt b (pageWords * p + i)) (getD b (pageBlocks * p + at) 0) =
+      λ k q. word-at b (pageBlocks * p + at) k q ∙ ap (λ x. cond (bitAt b x) 1 0) (omega arith) in
+      rw (bit-in (pageWords * p) allocated b i (omega arith), bit-in (pageWords * p) marked b i (omega arith))
+      (word-and at (bitAt b) (λ i. not (bitAt b (pageWords * p + i))) _ _ (word-at b at) (word-not at (λ i. bitAt b (pageWords * p + i)) _ (fit (pageBlocks * p + at)) m) j l)
 
-  pub scan-freed : {from at mask : ℕ} → at < 16 * p → Masked from at mask → None (passFrom (isFreed p b) from) (at * 64) →
-      Passed (passFrom (isFreed p b) from) at (trailingZeros 64 (bitAnd (bitAnd (getD b at 0) ((2 ^ 64 - 1) - getD b (16 * p + at) 0)) mask))
+  pub scan-freed : {from at mask : ℕ} → at < pageBlocks * p → Masked from at mask → None (passFrom (isFreed p b) from) (at * 64) →
+      Passed (passFrom (isFreed p b) from) at (trailingZeros 64 (bitAnd (bitAnd (getD b at 0) ((2 ^ 64 - 1) - getD b (pageBlocks * p + at) 0)) mask))
   scan-freed {from} {at} h m n = scan-from (isFreed p b) _ (freed-word at h) m n
 
 -- .. and the word of clear bits

@@ -8,7 +8,7 @@ ghost use mathlib.Core.Path.{_≡_};
 ghost use Prim.Native.Nat.{ℕ, _/_, _%_, _^_, _≤_, _<_};
 ghost use lib.Dec.{eqb};
 ghost use Rattle.model.specs.Bitmaps.{bitOf};
-ghost use Rattle.model.specs.Memory.{pageBytes, wordBytes};
+ghost use Rattle.model.specs.Memory.{pageBytes, wordBytes, slotCount};
 ghost use Rattle.model.specs.Classes.{rows, classRows, elementBytes, classOf, kindOf, pagesFor, classPages, elementWordsOf, elementsOf};
 use units::PAGE_BYTES;
 use units::PAGE_WORDS;
@@ -420,7 +420,7 @@ pub fn pages_for(size: u64) -> usize
 
 // The words of an element of class c in a span of n pages, as many as the page table can say.
 pub fn element_words(c: usize, n: usize) -> usize
-    requires { ⌜ (c ≤ rows) × (n < 2 ^ 32) ⌝ }
+    requires { ⌜ (c ≤ rows) × (n < 2 ^ slotCount) ⌝ }
     ensures { λ r. ⌜ r ≡ elementWordsOf c n ⌝ }
 {
     if c == 0 {

@@ -9,7 +9,7 @@ use lib.Dec.{T}
 use lib.ListN.{length, getD}
 use borrow.Author.Tests.{ne-eqb, le-ltb, lt-ltb}
 use Rattle.model.specs.Bounded.{firstBelow}
-use Rattle.model.specs.Memory.{Heap, lent, words, addressOf}
+use Rattle.model.specs.Memory.{Heap, lent, words, addressOf, phaseAt, pageWords, entryNumbers}
 use Rattle.model.specs.Bitmaps.{bitAt, withBit, putBit, is, allocated, gray, pointer}
 use Rattle.model.specs.Spans.{elementWords, spanOf, pointerCount, kept}
 use Rattle.model.specs.Answers.{Meets, _given_}
@@ -29,23 +29,23 @@ use Rattle.cycle.specs.Needs.{Record, Gray}
 
 -- the search over the gray part of the bitmaps
 pub gray-found : (p : ℕ) (b : List ℕ) {r : ℕ} →
-    r ≡ 2 * (1024 * p) + firstBelow (2 * (1024 * p) + 1024 * p - 2 * (1024 * p)) (λ k. bitAt b (2 * (1024 * p) + k)) →
-    (a t roots : List ℕ) → r - 2 * (1024 * p) ≡ firstGray (lent p a t b roots)
+    r ≡ 2 * (pageWords * p) + firstBelow (2 * (pageWords * p) + pageWords * p - 2 * (pageWords * p)) (λ k. bitAt b (2 * (pageWords * p) + k)) →
+    (a t roots : List ℕ) → r - 2 * (pageWords * p) ≡ firstGray (lent p a t b roots)
 unfolding firstGray
 gray-found p b {r} e a t roots =
-    let n : 2 * (1024 * p) + 1024 * p - 2 * (1024 * p) ≡ 1024 * p = omega arith in
-    let f = first-cong (1024 * p) (λ k. bitAt b (2 * (1024 * p) + k)) (is gray (lent p a t b roots)) (λ k l. sym (bit-in (1024 * p) gray b k l)) in
+    let n : 2 * (pageWords * p) + pageWords * p - 2 * (pageWords * p) ≡ pageWords * p = omega arith in
+    let f = first-cong (pageWords * p) (λ k. bitAt b (2 * (pageWords * p) + k)) (is gray (lent p a t b roots)) (λ k l. sym (bit-in (pageWords * p) gray b k l)) in
     omega (arith, rw n at e, f)
 
 -- where the record at word w lies
 pub record Lies (p : ℕ) (t : List ℕ) (w : ℕ) : Type 0 where
-  pub page : 3 * (w / 1024) + 2 < length t
+  pub page : entryNumbers * (w / pageWords) + 2 < length t
   pub entry : Entry t (spanOf t w)
-  pub inside : w + elementWords t (spanOf t w) ≤ 1024 * p
+  pub inside : w + elementWords t (spanOf t w) ≤ pageWords * p
 
 pub lies : {p : ℕ} {t b : List ℕ} {w : ℕ} → Record p t b w → Lies p t w
 lies {p} {t} {b} {w} R =
-    let o = R .spans .whose (w / 1024) (R .element .lies .used) in
+    let o = R .spans .whose (w / pageWords) (R .element .lies .used) in
     let i = R .spans .inside (spanOf t w) (o .0) in
     record {
       page = omega (arith, R .tables .table);
@@ -54,13 +54,13 @@ lies {p} {t} {b} {w} R =
     }
 
 -- the search for the end of the run of pointer bits
-pub pointers-found : (p : ℕ) (t b : List ℕ) (w : ℕ) {r size : ℕ} → size ≡ elementWords t (spanOf t w) → w + elementWords t (spanOf t w) ≤ 1024 * p →
-    r ≡ (3 * (1024 * p) + w) + firstBelow (3 * (1024 * p) + w + size - (3 * (1024 * p) + w)) (λ k. not (bitAt b (3 * (1024 * p) + w + k))) →
-    (a roots : List ℕ) → r - (3 * (1024 * p) + w) ≡ pointerCount (lent p a t b roots) w
+pub pointers-found : (p : ℕ) (t b : List ℕ) (w : ℕ) {r size : ℕ} → size ≡ elementWords t (spanOf t w) → w + elementWords t (spanOf t w) ≤ pageWords * p →
+    r ≡ (3 * (pageWords * p) + w) + firstBelow (3 * (pageWords * p) + w + size - (3 * (pageWords * p) + w)) (λ k. not (bitAt b (3 * (pageWords * p) + w + k))) →
+    (a roots : List ℕ) → r - (3 * (pageWords * p) + w) ≡ pointerCount (lent p a t b roots) w
 pointers-found p t b w {r} {size} z l e a roots =
-    let n : 3 * (1024 * p) + w + size - (3 * (1024 * p) + w) ≡ elementWords t (spanOf t w) = omega arith in
-    let f = first-cong (elementWords t (spanOf t w)) (λ k. not (bitAt b (3 * (1024 * p) + w + k))) (λ k. not (is pointer (lent p a t b roots) (w + k)))
-    (λ k h. ap not (ap (bitAt b) (omega arith) ∙ sym (bit-in (1024 * p) pointer b (w + k) (omega arith)))) in
+    let n : 3 * (pageWords * p) + w + size - (3 * (pageWords * p) + w) ≡ elementWords t (spanOf t w) = omega arith in
+    let f = first-cong (elementWords t (spanOf t w)) (λ k. not (bitAt b (3 * (pageWords * p) + w + k))) (λ k. not (is pointer (lent p a t b roots) (w + k)))
+    (λ k h. ap not (ap (bitAt b) (omega arith) ∙ sym (bit-in (pageWords * p) pointer b (w + k) (omega arith)))) in
     omega (arith, rw n at e, f)
 
 -- a gray record of an audited heap
@@ -86,26 +86,26 @@ module _ {h : Heap} {w : ℕ} (G : Gray h w) where
       }
 
 -- the gray bit goes, and the pointer words are shaded
-pub record-scanned : (h : Heap) (w : ℕ) {n m : ℕ} {b b' : List ℕ} → n ≡ pointerCount h w → b ≡ withBit (2 * (1024 * h .pages) + w) false (h .bits) →
+pub record-scanned : (h : Heap) (w : ℕ) {n m : ℕ} {b b' : List ℕ} → n ≡ pointerCount h w → b ≡ withBit (2 * (pageWords * h .pages) + w) false (h .bits) →
     ShadesAll (h .pages) (h .table) n (λ i. getD (h .arena) (w + i) 0) b m b' → b' ≡ scanRecord w h
 unfolding scanRecord putBit
 record-scanned h w e f S = S .bits ∙ rw (e, f)
 
 -- the lowest gray record is gray
-pub first-gray : (h : Heap) → Audited h → getD (h .roots) 561 0 ≡ 1 → firstGray h < 1024 * h .pages → Gray h (firstGray h)
+pub first-gray : (h : Heap) → Audited h → getD (h .roots) phaseAt 0 ≡ 1 → firstGray h < pageWords * h .pages → Gray h (firstGray h)
 unfolding firstGray
 first-gray h A m l = record { audited = A; marking = m; grays = first-props (words h) (is gray h) .holds l }
 
 module _ (p : ℕ) (a t b r : List ℕ) where
-  pub step-refused : getD r 561 0 ≢ 1 → Meets (markStep (lent p a t b r)) (Refused 2) a t b r
+  pub step-refused : getD r phaseAt 0 ≢ 1 → Meets (markStep (lent p a t b r)) (Refused 2) a t b r
   unfolding markStep _given_
-  step-refused d = meets {p = p} (rw (ne-eqb (getD r 561 0) 1 d))
+  step-refused d = meets {p = p} (rw (ne-eqb (getD r phaseAt 0) 1 d))
 
-  pub step-none : getD r 561 0 ≡ 1 → 1024 * p ≤ firstGray (lent p a t b r) → Meets (markStep (lent p a t b r)) (Value 0) a t b r
+  pub step-none : getD r phaseAt 0 ≡ 1 → pageWords * p ≤ firstGray (lent p a t b r) → Meets (markStep (lent p a t b r)) (Value 0) a t b r
   unfolding markStep _given_
-  step-none e l = meets {p = p} (rw (e, le-ltb (firstGray (lent p a t b r)) (1024 * p) l))
+  step-none e l = meets {p = p} (rw (e, le-ltb (firstGray (lent p a t b r)) (pageWords * p) l))
 
-  pub step-done : getD r 561 0 ≡ 1 → firstGray (lent p a t b r) < 1024 * p → {v : ℕ} {b' : List ℕ} → v ≡ addressOf (firstGray (lent p a t b r)) →
+  pub step-done : getD r phaseAt 0 ≡ 1 → firstGray (lent p a t b r) < pageWords * p → {v : ℕ} {b' : List ℕ} → v ≡ addressOf (firstGray (lent p a t b r)) →
       b' ≡ scanRecord (firstGray (lent p a t b r)) (lent p a t b r) → Meets (markStep (lent p a t b r)) (Value v) a t b' r
   unfolding markStep _given_
-  step-done e l f g = meets {p = p} (rw (e, lt-ltb (firstGray (lent p a t b r)) (1024 * p) l, f, g))
+  step-done e l f g = meets {p = p} (rw (e, lt-ltb (firstGray (lent p a t b r)) (pageWords * p) l, f, g))

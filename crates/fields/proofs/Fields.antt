@@ -10,7 +10,7 @@ use lib.Dec.{T, ltb, leb}
 use lib.ListN.{getD}
 use borrow.Author.Tests.{ltb-true, ltb-false, lt-ltb, le-ltb, lt-leb, le-leb, not-true, not-false}
 use Rattle.model.specs.Bounded.{firstBelow}
-use Rattle.model.specs.Memory.{Heap, wordOf}
+use Rattle.model.specs.Memory.{Heap, wordOf, firstState, pageWords}
 use Rattle.model.specs.Bitmaps.{bitIn, bitAt, pointer}
 use Rattle.model.specs.Spans.{spanOf, elementWords}
 use Rattle.model.proofs.Tests.{clash}
@@ -33,14 +33,14 @@ run p t b w = firstBelow (elementWords t (spanOf t w)) (λ k. not (bit p pointer
 
 module _ {p : ℕ} {t b : List ℕ} {w : ℕ} (R : Record p t b w) where
   -- its element lies in the arena
-  pub fits : w + elementWords t (spanOf t w) ≤ 1024 * p
+  pub fits : w + elementWords t (spanOf t w) ≤ pageWords * p
   fits = whole (R .spans) w (R .element) .1
 
   pub entries : Entries t w
   entries =
       let x = whole (R .spans) w (R .element) in
       let i = span-of (R .spans) w (R .element .lies .used) in
-      let s = R .spans .whose (w / 1024) (R .element .lies .used) in
+      let s = R .spans .whose (w / pageWords) (R .element .lies .used) in
       let T = R .tables in
       record {
         page = omega (arith, T .table, x .1, x .2);
@@ -50,7 +50,7 @@ module _ {p : ℕ} {t b : List ℕ} {w : ℕ} (R : Record p t b w) where
       }
 
   -- what the code's test of field f says: it lies in the element, and so in the arena; or it is no field
-  pub inside : (f : ℕ) {r : Bool} → r ≡ ltb f (elementWords t (spanOf t w)) → not r ≡ false → (f < elementWords t (spanOf t w)) × (w + f < 1024 * p)
+  pub inside : (f : ℕ) {r : Bool} → r ≡ ltb f (elementWords t (spanOf t w)) → not r ≡ false → (f < elementWords t (spanOf t w)) × (w + f < pageWords * p)
   inside f {r} e x = let l = ltb-true f (elementWords t (spanOf t w)) (sym e ∙ not-false r x) in (l, omega (arith, fits))
 
   past : (f : ℕ) {r : Bool} → r ≡ ltb f (elementWords t (spanOf t w)) → not r ≡ true → elementWords t (spanOf t w) ≤ f
@@ -79,18 +79,18 @@ module _ {p : ℕ} {t b : List ℕ} {w : ℕ} (R : Record p t b w) where
       go false q = ltb-false f (run p t b w) q
 
   -- field f of the element: its pointer bit says what it is
-  pub pointer-field : (f : ℕ) → f < elementWords t (spanOf t w) → bitAt b (3 * (1024 * p) + (w + f)) ≡ ltb f (run p t b w)
-  pointer-field f l = rw (← in-arena (1024 * p) b (w + f) (omega (arith, fits))) (go (bit p pointer b (w + f)) refl)
+  pub pointer-field : (f : ℕ) → f < elementWords t (spanOf t w) → bitAt b (3 * (pageWords * p) + (w + f)) ≡ ltb f (run p t b w)
+  pointer-field f l = rw (← in-arena (pageWords * p) b (w + f) (omega (arith, fits))) (go (bit p pointer b (w + f)) refl)
     where
       go : (c : Bool) → bit p pointer b (w + f) ≡ c → c ≡ ltb f (run p t b w)
       go true e = sym (lt-ltb f (run p t b w) (on f l e))
       go false e = sym (le-ltb f (run p t b w) (off f e))
 
-  pub number-field : (f : ℕ) → f < elementWords t (spanOf t w) → not (bitAt b (3 * (1024 * p) + (w + f))) ≡ not (ltb f (run p t b w) || leb (elementWords t (spanOf t w)) f)
+  pub number-field : (f : ℕ) → f < elementWords t (spanOf t w) → not (bitAt b (3 * (pageWords * p) + (w + f))) ≡ not (ltb f (run p t b w) || leb (elementWords t (spanOf t w)) f)
   number-field f l = rw (lt-leb (elementWords t (spanOf t w)) f l, or-false (ltb f (run p t b w))) (ap not (pointer-field f l))
 
 -- a slot or global that is not nil names a record
-pub slot-record : {p : ℕ} {t b r : List ℕ} → Rooted p t b r → (i : ℕ) → i < 544 → getD r i 0 ≢ 0 → Record p t b (wordOf (getD r i 0))
+pub slot-record : {p : ℕ} {t b r : List ℕ} → Rooted p t b r → (i : ℕ) → i < firstState → getD r i 0 ≢ 0 → Record p t b (wordOf (getD r i 0))
 slot-record {p} {t} {b} {r} R i l d =
     record { tables = R .tables; spans = R .spans; bits = R .bits; element = R .bits .element (wordOf (getD r i 0)) (named (R .bits) (getD r i 0) d (R .named i l) .0) }
 

@@ -4,7 +4,7 @@ use mathlib.Core.Path.{_≡_, refl}
 use mathlib.Core.List.{List, [], _∷_, map}
 use Rattle.model.specs.Bounded.{allBelow, firstFrom, firstBelow, _implies_}
 use lib.ListN.{length}
-use Rattle.model.specs.Memory.{pageBytes, pageWords, wordBytes, bitmapWords, wordBits, stackCount, slotCount, globalCount, firstGlobal, firstState, globalsStateAt, phaseAt, rootWords}
+use Rattle.model.specs.Memory.{pageBytes, pageWords, wordBytes, bitmapWords, wordBits, pageBlocks, stackCount, slotCount, globalCount, firstGlobal, firstState, globalsStateAt, phaseAt, rootWords}
 use Rattle.model.specs.Classes.{rows, kinds, maxSmall, maxSize, fewestLarge, mostLarge, classRows, elementBytes, spanBytes, classPages, classOf, kindOf, pagesFor}
 use Rattle.model.specs.Spans.{owner}
 use Rattle.model.specs.Allocate.{runLength, isRun, isShortest, bestRun}
@@ -30,7 +30,8 @@ cases = record { classes = refl; large = refl; kinds = refl; runs = refl }
 -- The limits that follow from others agree with them.
 pub record Agree : Type 0 where
   pub page : pageBytes ≡ pageWords * wordBytes
-  pub bits : bitmapWords * wordBits ≡ 4 * pageWords
+  pub blocks : pageBlocks * wordBits ≡ pageWords
+  pub bits : bitmapWords ≡ 4 * pageBlocks
   pub slotsEnd : firstGlobal ≡ stackCount * slotCount
   pub globalsEnd : firstState ≡ firstGlobal + globalCount
   pub statesEnd : globalsStateAt ≡ firstState + stackCount
@@ -43,4 +44,4 @@ pub record Agree : Type 0 where
 pub agree : Agree
 unfolding classOf pagesFor classPages elementBytes spanBytes classRows firstBelow firstFrom
 agree =
-    record { page = refl; bits = refl; slotsEnd = refl; globalsEnd = refl; statesEnd = refl; beforePhase = refl; roots = refl; table = refl; kindsOf = refl; large = refl }
+    record { page = refl; blocks = refl; bits = refl; slotsEnd = refl; globalsEnd = refl; statesEnd = refl; beforePhase = refl; roots = refl; table = refl; kindsOf = refl; large = refl }

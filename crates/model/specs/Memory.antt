@@ -35,6 +35,10 @@ bitmapWords = 64
 abbrev pub wordBits : ℕ
 wordBits = 64
 
+-- "in four parts of 16 × P": the words of a page in one part; each has the bits of a block, 64 arena words
+abbrev pub pageBlocks : ℕ
+pageBlocks = 16
+
 -- "roots: 562 words."
 abbrev pub rootWords : ℕ
 rootWords = 562

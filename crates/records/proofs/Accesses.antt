@@ -5,7 +5,7 @@ use mathlib.Core.List.{List}
 use mathlib.Core.Path.{_≡_, sym, _∙_}
 use native.Mathlib.Omega.{arith}
 use lib.ListN.{length, getD}
-use Rattle.model.specs.Memory.{Heap, slot, slotAt, word}
+use Rattle.model.specs.Memory.{Heap, slot, slotAt, word, stackCount, slotCount, firstState, rootWords, pageWords}
 use Rattle.model.specs.Spans.{elementWords, spanOf, isPointer}
 use Rattle.model.specs.Checks.{pointerRefusal, numberRefusal, recordAt}
 use Rattle.model.proofs.Bounded.{first-props}
@@ -20,10 +20,10 @@ use Rattle.fields.proofs.Fields.{fits, slot-record, rooted}
 
 -- field f of the record in slot j lies in the arena, and there are slots i and j
 pub record Access (h : Heap) (s i j f : ℕ) : Type 0 where
-  pub stack : s < 16
-  pub other : i < 32
-  pub slot : j < 32
-  pub long : length (h .roots) ≡ 562
+  pub stack : s < stackCount
+  pub other : i < slotCount
+  pub slot : j < slotCount
+  pub long : length (h .roots) ≡ rootWords
   pub inside : recordAt h s j + f < length (h .arena)
   pub high : recordAt h s j + f < 262144
 
@@ -35,7 +35,7 @@ module _ {h : Heap} (A : Audited h) (s i j f : ℕ) {n : ℕ} (e : n ≡ pointer
   passed : PointerField h s i j f
   passed = pointer-passed h s i j f (sym e ∙ z)
 
-  in-slots : slotAt s j < 544
+  in-slots : slotAt s j < firstState
   in-slots = omega (arith, passed .stack .below, passed .slot)
 
   pub pointer-access : Access h s i j f
@@ -43,7 +43,7 @@ module _ {h : Heap} (A : Audited h) (s i j f : ℕ) {n : ℕ} (e : n ≡ pointer
       let P = passed in
       let w = fits (slot-record (rooted A) (slotAt s j) in-slots (P .named)) in
       let l = first-props (elementWords (h .table) (spanOf (h .table) (recordAt h s j))) (λ k. not (isPointer h (recordAt h s j + k))) .within in
-      let x : recordAt h s j + f < 1024 * h .pages = omega (arith, P .field) in
+      let x : recordAt h s j + f < pageWords * h .pages = omega (arith, P .field) in
       record { stack = P .stack .below; other = P .other; slot = P .slot; long = A .sized .roots; inside = omega (arith, A .sized .arena); high = omega (arith, A .sized .high) }
 
   -- the old value of the field and slot i may be shaded
@@ -65,11 +65,11 @@ pub number-access : {h : Heap} → Audited h → (s j f : ℕ) {n : ℕ} → n �
 number-access {h} A s j f e z =
     let P = number-passed h s j f (sym e ∙ z) in
     let w = fits (slot-record (rooted A) (slotAt s j) (omega (arith, P .stack .below, P .slot)) (P .named)) in
-    let x : recordAt h s j + f < 1024 * h .pages = omega (arith, P .high) in
+    let x : recordAt h s j + f < pageWords * h .pages = omega (arith, P .high) in
     record { stack = P .stack .below; other = P .slot; slot = P .slot; long = A .sized .roots; inside = omega (arith, A .sized .arena); high = omega (arith, A .sized .high) }
 
 -- two roots that are references, as the barrier asks
-pub roots-stored : {p : ℕ} {t b r : List ℕ} → Rooted p t b r → (x y : ℕ) → x < 544 → y < 544 → Stored p t b r (getD r x 0) (getD r y 0)
+pub roots-stored : {p : ℕ} {t b r : List ℕ} → Rooted p t b r → (x y : ℕ) → x < firstState → y < firstState → Stored p t b r (getD r x 0) (getD r y 0)
 roots-stored {p} {t} {b} {r} R x y k l =
     record {
       tables = R .tables;

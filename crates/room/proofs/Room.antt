@@ -7,7 +7,7 @@ use mathlib.Core.Path.{_≡_, sym, _∙_}
 use native.Mathlib.Omega.{arith}
 use lib.Dec.{eqb}
 use borrow.Author.Tests.{lt-ltb, le-ltb, eq-eqb, ne-eqb}
-use Rattle.model.specs.Memory.{Heap, lent, phase, sweep, firstWord}
+use Rattle.model.specs.Memory.{Heap, lent, phase, sweep, firstWord, pageWords, maxPages}
 use Rattle.model.specs.Answers.{_orElse_, sweepFirst, noRoom}
 use Rattle.model.specs.Classes.{kindOf, pagesFor}
 use Rattle.model.specs.Checks.{slotRefusal, sizeRefusal}
@@ -66,7 +66,7 @@ module _ {p : ℕ} {t b : List ℕ} (a o : List ℕ) (kind : ℕ) (X : Searchabl
   pub span-there : Span p t b s
   span-there = record { searchable = X; first = rw e (span-found (lent p a t b o) kind (rw e at l) .span) }
 
-  pub place-inside : {k m : ℕ} → k ≡ freeElement (lent p a t b o) s → m ≡ elementWords t s → (1024 * s + k * m + m ≤ 1024 * p) × (p ≤ 256)
+  pub place-inside : {k m : ℕ} → k ≡ freeElement (lent p a t b o) s → m ≡ elementWords t s → (pageWords * s + k * m + m ≤ pageWords * p) × (p ≤ maxPages)
   place-inside {k} {m} f g =
       let u : freeElement (lent p a t b o) s < elements t s = rw e (span-found (lent p a t b o) kind (rw e at l) .free) in
       let i = X .spans .inside s (span-there .first) in

@@ -8,7 +8,7 @@ use native.Mathlib.Omega.{arith}
 use lib.Dec.{eqb}
 use lib.ListN.{length, getD, set, length-set}
 use borrow.Author.Tests.{ne-eqb}
-use Rattle.model.specs.Memory.{lent, putWords}
+use Rattle.model.specs.Memory.{lent, putWords, stackCount, firstState, globalsStateAt, phaseAt, rootWords}
 use Rattle.model.specs.Answers.{Meets, _given_}
 use Rattle.model.specs.Cycle.{start}
 use Rattle.model.specs.declared.Answer.the-variants.{Refused, Done}
@@ -22,23 +22,23 @@ grayedAt r i = cond (eqb (getD r i 0) 0) 0 2
 
 -- the first s stacks of r are gray, if they are open
 pub record Grayed (r : List ℕ) (s : ℕ) (now : List ℕ) : Type 0 where
-  pub long : length now ≡ 562
-  pub is : now ≡ putWords 544 s (grayedAt r) r
+  pub long : length now ≡ rootWords
+  pub is : now ≡ putWords firstState s (grayedAt r) r
 
-pub none-grayed : (r : List ℕ) → length r ≡ 562 → Grayed r 0 r
-none-grayed r l = record { long = l; is = sym (run-none (λ i v l. set l i v) 544 (grayedAt r) r) }
+pub none-grayed : (r : List ℕ) → length r ≡ rootWords → Grayed r 0 r
+none-grayed r l = record { long = l; is = sym (run-none (λ i v l. set l i v) firstState (grayedAt r) r) }
 
-pub one-grayed : (r : List ℕ) (s : ℕ) (now : List ℕ) (v : ℕ) → length r ≡ 562 → s < 16 → Grayed r s now → v ≡ grayedAt now (544 + s) → Grayed r (s + 1) (set now (544 + s) v)
+pub one-grayed : (r : List ℕ) (s : ℕ) (now : List ℕ) (v : ℕ) → length r ≡ rootWords → s < stackCount → Grayed r s now → v ≡ grayedAt now (firstState + s) → Grayed r (s + 1) (set now (firstState + s) v)
 one-grayed r s now v l h G e =
-    let same : getD now (544 + s) 0 ≡ getD r (544 + s) 0 =
-    rw (G .is, words-at 562 544 s (grayedAt r) r (omega arith) l (544 + s), within-high 544 s (544 + s) (omega arith)) in
-    record { long = length-set now (544 + s) v ∙ G .long; is = rw (e, same, run-step (λ i v l. set l i v) 544 s (grayedAt r) r, ← G .is) }
+    let same : getD now (firstState + s) 0 ≡ getD r (firstState + s) 0 =
+    rw (G .is, words-at rootWords firstState s (grayedAt r) r (omega arith) l (firstState + s), within-high firstState s (firstState + s) (omega arith)) in
+    record { long = length-set now (firstState + s) v ∙ G .long; is = rw (e, same, run-step (λ i v l. set l i v) firstState s (grayedAt r) r, ← G .is) }
 
 module _ (p : ℕ) (a t b r : List ℕ) where
-  pub start-refused : getD r 561 0 ≢ 0 → Meets (start (lent p a t b r)) (Refused 2) a t b r
+  pub start-refused : getD r phaseAt 0 ≢ 0 → Meets (start (lent p a t b r)) (Refused 2) a t b r
   unfolding start _given_
-  start-refused d = meets {p = p} (rw (ne-eqb (getD r 561 0) 0 d))
+  start-refused d = meets {p = p} (rw (ne-eqb (getD r phaseAt 0) 0 d))
 
-  pub started : getD r 561 0 ≡ 0 → {now : List ℕ} → now ≡ putWords 544 16 (grayedAt r) r → Meets (start (lent p a t b r)) Done a t b (set (set now 560 2) 561 1)
+  pub started : getD r phaseAt 0 ≡ 0 → {now : List ℕ} → now ≡ putWords firstState stackCount (grayedAt r) r → Meets (start (lent p a t b r)) Done a t b (set (set now globalsStateAt 2) phaseAt 1)
   unfolding start _given_
   started e f = meets {p = p} (rw (e, f))

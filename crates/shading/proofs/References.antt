@@ -3,7 +3,7 @@ use Prim.Native.Nat.{ℕ, _-_, _/_}
 use mathlib.Core.List.{List}
 use mathlib.Core.Logic.{_≢_}
 use native.Mathlib.Omega.{arith}
-use Rattle.model.specs.Memory.{Heap, wordOf}
+use Rattle.model.specs.Memory.{Heap, wordOf, pageWords}
 use Rattle.model.specs.Facts.{Spans, Audited, Bits, Reference}
 use Rattle.model.proofs.Named.{named}
 use Rattle.shading.specs.Needs.{Tables, Named}
@@ -12,7 +12,7 @@ use Rattle.shading.specs.Needs.{Tables, Named}
 pub reference-named : {p : ℕ} {t b : List ℕ} → Spans p t → Bits p t b → (v : ℕ) → Reference p t b v → v ≢ 0 → Named p t v
 reference-named F C v r d =
     let n = named C v d r in
-    let s = F .whose (wordOf v / 1024) (C .element (wordOf v) (n .0) .lies .used) in
+    let s = F .whose (wordOf v / pageWords) (C .element (wordOf v) (n .0) .lies .used) in
     record { word = n .2; span = omega (arith, s .1, n .2) }
 
 pub audited-tables : {h : Heap} → Audited h → Tables (h .pages) (h .table) (h .bits)

@@ -9,7 +9,7 @@ use native.Mathlib.Omega.{arith}
 use lib.Dec.{eqb}
 use lib.ListN.{getD}
 use borrow.Author.Tests.{eq-eqb, ne-eqb, lt-ltb}
-use Rattle.model.specs.Memory.{wordOf, lent}
+use Rattle.model.specs.Memory.{wordOf, lent, phaseAt, pageWords}
 use Rattle.model.specs.Bitmaps.{bitAt, withBit, bitIn, putBit, marked}
 use Rattle.model.specs.Spans.{isScan, spanOf}
 use Rattle.model.specs.Shading.{isWhite, shade, shadeAll, shadeCount, barrier}
@@ -26,31 +26,31 @@ pub nil-shades : (p : ℕ) (t : List ℕ) (v : ℕ) (b : List ℕ) → v ≡ 0 �
 nil-shades p t v b e = black p t v b (rw (eq-eqb v 0 e))
 
 module _ (p : ℕ) (t : List ℕ) (v : ℕ) (b : List ℕ) (named : Named p t v) {w : ℕ} (e : w ≡ wordOf v) where
-  white-is : (m : Bool) → bitAt b (1024 * p + w) ≡ m → bitIn (1024 * p) marked b (wordOf v) ≡ m
+  white-is : (m : Bool) → bitAt b (pageWords * p + w) ≡ m → bitIn (pageWords * p) marked b (wordOf v) ≡ m
   unfolding bitIn
-  white-is m x = rw (← e) (rw (lt-ltb w (1024 * p) (omega (arith, named .word))) x)
+  white-is m x = rw (← e) (rw (lt-ltb w (pageWords * p) (omega (arith, named .word))) x)
 
-  pub marked-shades : bitAt b (1024 * p + w) ≡ true → Shades p t v b 0 b
+  pub marked-shades : bitAt b (pageWords * p + w) ≡ true → Shades p t v b 0 b
   marked-shades x = black p t v b (rw (white-is true x) (and-false (not (eqb v 0))))
 
   -- a white record in a noscan span
-  pub noscan-shades : v ≢ 0 → bitAt b (1024 * p + w) ≡ false → isScan t (spanOf t w) ≡ false → {b' : List ℕ} → b' ≡ withBit (1024 * p + w) true b → Shades p t v b 1 b'
+  pub noscan-shades : v ≢ 0 → bitAt b (pageWords * p + w) ≡ false → isScan t (spanOf t w) ≡ false → {b' : List ℕ} → b' ≡ withBit (pageWords * p + w) true b → Shades p t v b 1 b'
   unfolding shade putBit
   noscan-shades d x s f = record { count = rw (ne-eqb v 0 d, white-is false x); bits = rw (ne-eqb v 0 d, white-is false x, ← e, s, f) }
 
   -- .. in a scan span
-  pub scan-shades : v ≢ 0 → bitAt b (1024 * p + w) ≡ false → isScan t (spanOf t w) ≡ true → {b' b'' : List ℕ} → b' ≡ withBit (1024 * p + w) true b → b'' ≡ withBit (2 * (1024 * p) + w) true b' → Shades p t v b 1 b''
+  pub scan-shades : v ≢ 0 → bitAt b (pageWords * p + w) ≡ false → isScan t (spanOf t w) ≡ true → {b' b'' : List ℕ} → b' ≡ withBit (pageWords * p + w) true b → b'' ≡ withBit (2 * (pageWords * p) + w) true b' → Shades p t v b 1 b''
   unfolding shade putBit
   scan-shades d x s f g = record { count = rw (ne-eqb v 0 d, white-is false x); bits = rw (ne-eqb v 0 d, white-is false x, ← e, s, g, f) }
 
 -- the barrier outside the mark phase, and in it
-pub no-barrier : (p : ℕ) (a t b r : List ℕ) (old new : ℕ) → getD r 561 0 ≢ 1 → b ≡ barrier (lent p a t b r) old new
+pub no-barrier : (p : ℕ) (a t b r : List ℕ) (old new : ℕ) → getD r phaseAt 0 ≢ 1 → b ≡ barrier (lent p a t b r) old new
 unfolding barrier
-no-barrier p a t b r old new d = rw (ne-eqb (getD r 561 0) 1 d)
+no-barrier p a t b r old new d = rw (ne-eqb (getD r phaseAt 0) 1 d)
 
-pub shaded-both : (p : ℕ) (a t b r : List ℕ) (old new : ℕ) → getD r 561 0 ≡ 1 → {m n : ℕ} {x y : List ℕ} → Shades p t old b m x → Shades p t new x n y → y ≡ barrier (lent p a t b r) old new
+pub shaded-both : (p : ℕ) (a t b r : List ℕ) (old new : ℕ) → getD r phaseAt 0 ≡ 1 → {m n : ℕ} {x y : List ℕ} → Shades p t old b m x → Shades p t new x n y → y ≡ barrier (lent p a t b r) old new
 unfolding barrier
-shaded-both p a t b r old new e f g = rw (eq-eqb (getD r 561 0) 1 e, ← f .bits) (g .bits)
+shaded-both p a t b r old new e f g = rw (eq-eqb (getD r phaseAt 0) 1 e, ← f .bits) (g .bits)
 
 -- at most one mark turns on
 pub at-most-one : {p : ℕ} {t : List ℕ} {v : ℕ} {b : List ℕ} {n : ℕ} {x : List ℕ} → Shades p t v b n x → n ≤ 1

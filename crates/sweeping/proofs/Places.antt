@@ -4,17 +4,19 @@ use mathlib.Core.List.{List}
 use mathlib.Core.Path.{_≡_}
 use lib.ListN.{length}
 use native.Mathlib.Omega.{arith}
+use Rattle.model.specs.Classes.{rows}
+use Rattle.model.specs.Memory.{maxPages, entryNumbers, bitmapWords, unsweptFlag}
 use Rattle.model.specs.Spans.{pageCount, kindEntry}
 use Rattle.model.proofs.Spans.{fits}
 use Rattle.sweeping.specs.Spans.{Sweepable}
 
 pub record Placed (p : ℕ) (t b : List ℕ) (s : ℕ) : Type 0 where
-  pub high : p ≤ 256
-  pub table : length t ≡ 3 * p
-  pub bits : length b ≡ 64 * p
+  pub high : p ≤ maxPages
+  pub table : length t ≡ entryNumbers * p
+  pub bits : length b ≡ bitmapWords * p
   pub some : 0 < pageCount t s
   pub inside : s + pageCount t s ≤ p
-  pub class : kindEntry t s % 256 / 2 ≤ 66
+  pub class : kindEntry t s % unsweptFlag / 2 ≤ rows
 
 pub placed : {p : ℕ} {t b : List ℕ} {s : ℕ} → Sweepable p t b s → Placed p t b s
 placed {p} {t} {b} {s} S =

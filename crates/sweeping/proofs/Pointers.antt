@@ -8,6 +8,7 @@ use native.Mathlib.Omega.{arith}
 use lib.Dec.{T, eqb}
 use lib.ListN.{length}
 use borrow.Author.Tests.{eqb-true, eqb-false, not-false, ne-eqb}
+use Rattle.model.specs.Memory.{pageWords, unsweptFlag}
 use Rattle.model.specs.Bounded.{firstBelow, writeRun}
 use Rattle.model.specs.Bitmaps.{Part, bitAt, withBit, bitIn, putBit, putBits, place, allocated, marked, gray, pointer}
 use Rattle.model.specs.Spans.{pageCount, kindEntry, isScan, elementWords, elementNumber, spanOf}
@@ -59,35 +60,35 @@ stays p t b s w = bit p pointer b w && bit p marked b (startIn t s w)
 
 -- the bitmaps once that is so below word `at` of the span at page s
 abbrev pub upTo : ℕ → List ℕ → List ℕ → ℕ → ℕ → List ℕ
-upTo p t b s at = putBits (1024 * p) pointer (1024 * s) (at - 1024 * s) (stays p t b s) b
+upTo p t b s at = putBits (pageWords * p) pointer (pageWords * s) (at - pageWords * s) (stays p t b s) b
 
 -- .. and the next freed element is at `at`, or there is none
 pub record Cleared (p : ℕ) (t b : List ℕ) (s at : ℕ) (now : List ℕ) : Type 0 where
-  pub low : 1024 * s ≤ at
-  pub high : at ≤ 1024 * (s + pageCount t s)
+  pub low : pageWords * s ≤ at
+  pub high : at ≤ pageWords * (s + pageCount t s)
   pub long : length now ≡ length b
   pub is : now ≡ upTo p t b s at
-  pub next : at < 1024 * (s + pageCount t s) → isFreed p b at ≡ true
+  pub next : at < pageWords * (s + pageCount t s) → isFreed p b at ≡ true
 
 module _ (p : ℕ) (t b : List ℕ) (s : ℕ) (S : Sweepable p t b s) (fit : Fit b) where
-  inside : 1024 * (s + pageCount t s) ≤ 1024 * p
+  inside : pageWords * (s + pageCount t s) ≤ pageWords * p
   inside = omega (arith, S .spans .inside s (S .starts))
 
-  four : Four (1024 * p) b
+  four : Four (pageWords * p) b
   four = omega (arith, S .bits)
 
   -- the words of the span
-  home : (w : ℕ) → 1024 * s ≤ w → w < 1024 * (s + pageCount t s) → spanOf t w ≡ s
+  home : (w : ℕ) → pageWords * s ≤ w → w < pageWords * (s + pageCount t s) → spanOf t w ≡ s
   home w l m = at-home (S .spans) s w (S .starts) l m .1
 
   -- a freed element: it is whole, and not marked
-  module _ (at : ℕ) (low : 1024 * s ≤ at) (high : at < 1024 * (s + pageCount t s)) (freed : isFreed p b at ≡ true) where
+  module _ (at : ℕ) (low : pageWords * s ≤ at) (high : at < pageWords * (s + pageCount t s)) (freed : isFreed p b at ≡ true) where
     pub freed-start : startIn t s at ≡ at
     freed-start =
         let a = and-iff (bit p allocated b at) (not (bit p marked b at)) .0 (is-true _ freed) .0 in
         rw (home at low high) at (S .members .element at a .first)
 
-    pub freed-whole : at + elementWords t s ≤ 1024 * (s + pageCount t s)
+    pub freed-whole : at + elementWords t s ≤ pageWords * (s + pageCount t s)
     freed-whole =
         let a = and-iff (bit p allocated b at) (not (bit p marked b at)) .0 (is-true _ freed) .0 in
         rw (home at low high) at (whole (S .spans) at (S .members .element at a) .0)
@@ -98,10 +99,10 @@ module _ (p : ℕ) (t b : List ℕ) (s : ℕ) (S : Sweepable p t b s) (fit : Fit
         rw (start-same t s at w freed-start l m, of-false (bit p marked b at) u) (and-false (bit p pointer b w))
 
     -- no element that starts before its end reaches past it
-    pub next-bound : (w : ℕ) → at + elementWords t s ≤ w → w < 1024 * (s + pageCount t s) → at + elementWords t s ≤ startIn t s w
+    pub next-bound : (w : ℕ) → at + elementWords t s ≤ w → w < pageWords * (s + pageCount t s) → at + elementWords t s ≤ startIn t s w
     next-bound w l m = go (eqb at (startIn t s w)) refl
       where
-        r : (1024 * s ≤ startIn t s w) × (startIn t s w ≤ w) × (w < startIn t s w + elementWords t s)
+        r : (pageWords * s ≤ startIn t s w) × (startIn t s w ≤ w) × (w < startIn t s w + elementWords t s)
         r = start-range t s w (omega arith) (fits (S .spans) s (S .starts) .words)
 
         go : (c : Bool) → eqb at (startIn t s w) ≡ c → at + elementWords t s ≤ startIn t s w
@@ -110,7 +111,7 @@ module _ (p : ℕ) (t b : List ℕ) (s : ℕ) (S : Sweepable p t b s) (fit : Fit
             ⊎-elim (λ x. x) (λ x. absurd (omega (arith, r .2))) (elements-apart t s (elementNumber t s w) at freed-start (eqb-false at (startIn t s w) e))
 
   -- pointer bits between freed elements stay
-  kept-between : (q at : ℕ) → 1024 * s ≤ q → at ≤ 1024 * (s + pageCount t s) → ((w : ℕ) → q ≤ w → w < 1024 * (s + pageCount t s) → q ≤ startIn t s w) →
+  kept-between : (q at : ℕ) → pageWords * s ≤ q → at ≤ pageWords * (s + pageCount t s) → ((w : ℕ) → q ≤ w → w < pageWords * (s + pageCount t s) → q ≤ startIn t s w) →
       ((w : ℕ) → q ≤ w → w < at → isFreed p b w ≡ false) → (w : ℕ) → q ≤ w → w < at → stays p t b s w ≡ bit p pointer b w
   kept-between q at l h bound none w i j = go (bit p pointer b w) refl
     where
@@ -128,86 +129,86 @@ module _ (p : ℕ) (t b : List ℕ) (s : ℕ) (S : Sweepable p t b s) (fit : Fit
           marks a (none (startIn t s w) (bound w i (omega arith)) (omega (arith, r .1)))
 
   -- the bitmaps below one more word
-  run-on : (q at : ℕ) → 1024 * s ≤ q → q ≤ at → at ≤ 1024 * (s + pageCount t s) →
-      upTo p t b s at ≡ putBits (1024 * p) pointer q (at - q) (stays p t b s) (upTo p t b s q)
+  run-on : (q at : ℕ) → pageWords * s ≤ q → q ≤ at → at ≤ pageWords * (s + pageCount t s) →
+      upTo p t b s at ≡ putBits (pageWords * p) pointer q (at - q) (stays p t b s) (upTo p t b s q)
   run-on q at l m h =
-      let e : at - 1024 * s ≡ (q - 1024 * s) + (at - q) = omega arith in
-      let f : 1024 * s + (q - 1024 * s) ≡ q = omega arith in
-      rw e (run-append (putBit (1024 * p) pointer) (1024 * s) (q - 1024 * s) (at - q) (stays p t b s) b ∙ rw f)
+      let e : at - pageWords * s ≡ (q - pageWords * s) + (at - q) = omega arith in
+      let f : pageWords * s + (q - pageWords * s) ≡ q = omega arith in
+      rw e (run-append (putBit (pageWords * p) pointer) (pageWords * s) (q - pageWords * s) (at - q) (stays p t b s) b ∙ rw f)
 
-  module _ (q : ℕ) (l : 1024 * s ≤ q) (h : q ≤ 1024 * (s + pageCount t s)) where
-    up-four : Four (1024 * p) (upTo p t b s q)
-    up-four = rw (run-length (1024 * p) pointer (1024 * s) (q - 1024 * s) (stays p t b s) b) four
+  module _ (q : ℕ) (l : pageWords * s ≤ q) (h : q ≤ pageWords * (s + pageCount t s)) where
+    up-four : Four (pageWords * p) (upTo p t b s q)
+    up-four = rw (run-length (pageWords * p) pointer (pageWords * s) (q - pageWords * s) (stays p t b s) b) four
 
-    up-bit : (r : Part) (w : ℕ) → bit p r (upTo p t b s q) w ≡ cond (samePart r pointer && within (1024 * s) (q - 1024 * s) w) (stays p t b s w) (bit p r b w)
-    up-bit r w = part-run (1024 * p) pointer (1024 * s) (q - 1024 * s) (stays p t b s) b (omega (arith, inside)) four r w
+    up-bit : (r : Part) (w : ℕ) → bit p r (upTo p t b s q) w ≡ cond (samePart r pointer && within (pageWords * s) (q - pageWords * s) w) (stays p t b s w) (bit p r b w)
+    up-bit r w = part-run (pageWords * p) pointer (pageWords * s) (q - pageWords * s) (stays p t b s) b (omega (arith, inside)) four r w
 
     up-freed : (w : ℕ) → isFreed p (upTo p t b s q) w ≡ isFreed p b w
     up-freed w = rw (up-bit allocated w, up-bit marked w)
 
     up-fit : Fit (upTo p t b s q)
-    up-fit = run-fit (1024 * p) pointer (1024 * s) (q - 1024 * s) (stays p t b s) b (omega (arith, inside, S .bits)) fit
+    up-fit = run-fit (pageWords * p) pointer (pageWords * s) (q - pageWords * s) (stays p t b s) b (omega (arith, inside, S .bits)) fit
 
     -- on from word q, where no element starts before and reaches past it, to the next freed element
-    module _ (bound : (w : ℕ) → q ≤ w → w < 1024 * (s + pageCount t s) → q ≤ startIn t s w) where
-      pub on-to-next : (at : ℕ) → at ≡ q + firstBelow (1024 * (s + pageCount t s) - q) (λ k. isFreed p (upTo p t b s q) (q + k)) → Cleared p t b s at (upTo p t b s q)
-      on-to-next at e = record { low = omega arith; high = omega (arith, F .within); long = run-length (1024 * p) pointer (1024 * s) (q - 1024 * s) (stays p t b s) b; is = sym same; next = next }
+    module _ (bound : (w : ℕ) → q ≤ w → w < pageWords * (s + pageCount t s) → q ≤ startIn t s w) where
+      pub on-to-next : (at : ℕ) → at ≡ q + firstBelow (pageWords * (s + pageCount t s) - q) (λ k. isFreed p (upTo p t b s q) (q + k)) → Cleared p t b s at (upTo p t b s q)
+      on-to-next at e = record { low = omega arith; high = omega (arith, F .within); long = run-length (pageWords * p) pointer (pageWords * s) (q - pageWords * s) (stays p t b s) b; is = sym same; next = next }
         where
-          F : First (1024 * (s + pageCount t s) - q) (λ k. isFreed p (upTo p t b s q) (q + k)) (firstBelow (1024 * (s + pageCount t s) - q) (λ k. isFreed p (upTo p t b s q) (q + k)))
-          F = first-props (1024 * (s + pageCount t s) - q) (λ k. isFreed p (upTo p t b s q) (q + k))
+          F : First (pageWords * (s + pageCount t s) - q) (λ k. isFreed p (upTo p t b s q) (q + k)) (firstBelow (pageWords * (s + pageCount t s) - q) (λ k. isFreed p (upTo p t b s q) (q + k)))
+          F = first-props (pageWords * (s + pageCount t s) - q) (λ k. isFreed p (upTo p t b s q) (q + k))
 
           none : (w : ℕ) → q ≤ w → w < at → isFreed p b w ≡ false
           none w i j =
               let z : q + (w - q) ≡ w = omega arith in
               sym (up-freed w) ∙ (rw z at (F .before (w - q) (omega (arith, e))))
 
-          next : at < 1024 * (s + pageCount t s) → isFreed p b at ≡ true
+          next : at < pageWords * (s + pageCount t s) → isFreed p b at ≡ true
           next i =
               sym (up-freed at) ∙ ap (isFreed p (upTo p t b s q)) e ∙ F .holds (omega (arith, e))
 
           same : upTo p t b s at ≡ upTo p t b s q
           same =
               run-on q at l (omega (arith, e)) (omega (arith, e, F .within))
-              ∙ run-same (1024 * p) pointer q (at - q) (stays p t b s) (upTo p t b s q) (omega (arith, e, F .within, inside)) up-four up-fit
-              (λ x i j. kept-between q at l (omega (arith, e, F .within)) bound none x i (omega (arith, e)) ∙ sym (up-bit pointer x ∙ rw (within-high (1024 * s) (q - 1024 * s) x (omega arith))))
+              ∙ run-same (pageWords * p) pointer q (at - q) (stays p t b s) (upTo p t b s q) (omega (arith, e, F .within, inside)) up-four up-fit
+              (λ x i j. kept-between q at l (omega (arith, e, F .within)) bound none x i (omega (arith, e)) ∙ sym (up-bit pointer x ∙ rw (within-high (pageWords * s) (q - pageWords * s) x (omega arith))))
 
-  pub begun : (at : ℕ) → at ≡ 1024 * s + firstBelow (1024 * (s + pageCount t s) - 1024 * s) (λ k. isFreed p b (1024 * s + k)) → Cleared p t b s at b
+  pub begun : (at : ℕ) → at ≡ pageWords * s + firstBelow (pageWords * (s + pageCount t s) - pageWords * s) (λ k. isFreed p b (pageWords * s + k)) → Cleared p t b s at b
   begun at e =
-      let z : 1024 * s - 1024 * s ≡ 0 = omega arith in
-      let u : upTo p t b s (1024 * s) ≡ b = rw z (run-none (putBit (1024 * p) pointer) (1024 * s) (stays p t b s) b) in
-      rw u at (on-to-next (1024 * s) (omega arith) (omega arith) (λ w l m. start-range t s w l (fits (S .spans) s (S .starts) .words) .0) at (rw u e))
+      let z : pageWords * s - pageWords * s ≡ 0 = omega arith in
+      let u : upTo p t b s (pageWords * s) ≡ b = rw z (run-none (putBit (pageWords * p) pointer) (pageWords * s) (stays p t b s) b) in
+      rw u at (on-to-next (pageWords * s) (omega arith) (omega arith) (λ w l m. start-range t s w l (fits (S .spans) s (S .starts) .words) .0) at (rw u e))
 
   -- the freed element's pointer bits go, and the search goes on behind it
-  cleared-on : (at : ℕ) (now then : List ℕ) → Cleared p t b s at now → at < 1024 * (s + pageCount t s) →
-      then ≡ writeRun withBit (3 * (1024 * p) + at) (elementWords t s) (λ i. false) now → (on : ℕ) →
-      on ≡ (at + elementWords t s) + firstBelow (1024 * (s + pageCount t s) - (at + elementWords t s)) (λ k. isFreed p then ((at + elementWords t s) + k)) → Cleared p t b s on then
+  cleared-on : (at : ℕ) (now then : List ℕ) → Cleared p t b s at now → at < pageWords * (s + pageCount t s) →
+      then ≡ writeRun withBit (3 * (pageWords * p) + at) (elementWords t s) (λ i. false) now → (on : ℕ) →
+      on ≡ (at + elementWords t s) + firstBelow (pageWords * (s + pageCount t s) - (at + elementWords t s)) (λ k. isFreed p then ((at + elementWords t s) + k)) → Cleared p t b s on then
   cleared-on at now then C h e on f =
       let freed = C .next h in
       let on-end = freed-whole at (C .low) h freed in
       let z : at + elementWords t s - at ≡ elementWords t s = omega arith in
       let u : then ≡ upTo p t b s (at + elementWords t s) =
       rw (e, C .is) (sym (run-on at (at + elementWords t s) (C .low) (omega arith) on-end
-      ∙ rw z (run-cong (putBit (1024 * p) pointer) at (elementWords t s) (stays p t b s) (λ w. false) (upTo p t b s at) (λ w l m. freed-clear at (C .low) h freed w l m)
-      ∙ part-constant (1024 * p) pointer at (elementWords t s) false (upTo p t b s at)))) in
+      ∙ rw z (run-cong (putBit (pageWords * p) pointer) at (elementWords t s) (stays p t b s) (λ w. false) (upTo p t b s at) (λ w l m. freed-clear at (C .low) h freed w l m)
+      ∙ part-constant (pageWords * p) pointer at (elementWords t s) false (upTo p t b s at)))) in
       rw u (on-to-next (at + elementWords t s) (omega (arith, C .low)) on-end (next-bound at (C .low) h freed) on (rw u at f))
 
   -- .. with the element's words as the code counts them
-  pub cleared-next : (at : ℕ) (now then : List ℕ) {n : ℕ} → n ≡ elementWords t s → Cleared p t b s at now → at < 1024 * (s + pageCount t s) →
-      then ≡ writeRun withBit (3 * (1024 * p) + at) n (λ i. false) now → (on : ℕ) →
-      on ≡ (at + n) + firstBelow (1024 * (s + pageCount t s) - (at + n)) (λ k. isFreed p then ((at + n) + k)) → Cleared p t b s on then
+  pub cleared-next : (at : ℕ) (now then : List ℕ) {n : ℕ} → n ≡ elementWords t s → Cleared p t b s at now → at < pageWords * (s + pageCount t s) →
+      then ≡ writeRun withBit (3 * (pageWords * p) + at) n (λ i. false) now → (on : ℕ) →
+      on ≡ (at + n) + firstBelow (pageWords * (s + pageCount t s) - (at + n)) (λ k. isFreed p then ((at + n) + k)) → Cleared p t b s on then
   cleared-next at now then k C h e on f = cleared-on at now then C h (rw k at e) on (rw k at f)
 
-  pub cleared-all : (at : ℕ) (now : List ℕ) → Cleared p t b s at now → 1024 * (s + pageCount t s) ≤ at →
-      now ≡ putBits (1024 * p) pointer (1024 * s) (1024 * pageCount t s) (stays p t b s) b
+  pub cleared-all : (at : ℕ) (now : List ℕ) → Cleared p t b s at now → pageWords * (s + pageCount t s) ≤ at →
+      now ≡ putBits (pageWords * p) pointer (pageWords * s) (pageWords * pageCount t s) (stays p t b s) b
   cleared-all at now C h =
-      let z : at - 1024 * s ≡ 1024 * pageCount t s = omega (arith, C .high) in
+      let z : at - pageWords * s ≡ pageWords * pageCount t s = omega (arith, C .high) in
       rw z at (C .is)
 
   -- no element of a noscan span has pointer bits
-  pub noscan-same : kindEntry t s % 256 % 2 ≡ 1 → b ≡ putBits (1024 * p) pointer (1024 * s) (1024 * pageCount t s) (stays p t b s) b
+  pub noscan-same : kindEntry t s % unsweptFlag % 2 ≡ 1 → b ≡ putBits (pageWords * p) pointer (pageWords * s) (pageWords * pageCount t s) (stays p t b s) b
   noscan-same e =
-      sym (run-same (1024 * p) pointer (1024 * s) (1024 * pageCount t s) (stays p t b s) b (omega (arith, inside)) four fit (λ w l m. go w l (omega arith) (bit p pointer b w) refl))
+      sym (run-same (pageWords * p) pointer (pageWords * s) (pageWords * pageCount t s) (stays p t b s) b (omega (arith, inside)) four fit (λ w l m. go w l (omega arith) (bit p pointer b w) refl))
     where
-      go : (w : ℕ) → 1024 * s ≤ w → w < 1024 * (s + pageCount t s) → (c : Bool) → bit p pointer b w ≡ c → (c && bit p marked b (startIn t s w)) ≡ c
+      go : (w : ℕ) → pageWords * s ≤ w → w < pageWords * (s + pageCount t s) → (c : Bool) → bit p pointer b w ≡ c → (c && bit p marked b (startIn t s w)) ≡ c
       go w l m false x = refl
-      go w l m true x = clash (isScan t s) (of-true (isScan t s) (rw (home w l m) at (S .members .pointers w (is-true _ x) .1))) (ne-eqb (kindEntry t s % 256 % 2) 0 (omega arith))
+      go w l m true x = clash (isScan t s) (of-true (isScan t s) (rw (home w l m) at (S .members .pointers w (is-true _ x) .1))) (ne-eqb (kindEntry t s % unsweptFlag % 2) 0 (omega arith))

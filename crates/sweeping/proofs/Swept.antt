@@ -9,7 +9,7 @@ use native.Mathlib.Omega.{arith}
 use lib.Dec.{T, eqb}
 use borrow.Author.Tests.{eq-eqb, ne-eqb}
 use Rattle.model.specs.Bounded.{countBelow, writeRun}
-use Rattle.model.specs.Memory.{lent}
+use Rattle.model.specs.Memory.{lent, pageWords, pageBlocks}
 use Rattle.model.specs.Bitmaps.{Part, bitAt, withBit, putBits, allocated, marked, pointer}
 use Rattle.model.specs.Spans.{pageCount, elementWords, elements, elementStart, elementNumber, kindAt, putPage, putPages, spanPage, freePage}
 use Rattle.model.specs.Cycle.{freedCount, nothingLeft, sweptTable, sweptBits}
@@ -25,50 +25,50 @@ use Rattle.sweeping.proofs.Pointers.{stays}
 
 module _ (p : ℕ) (t b : List ℕ) (s : ℕ) (S : Sweepable p t b s) where
   -- pointer bits of freed elements went, then words of marks were moved
-  pub swept-words : (c : List ℕ) {then : List ℕ} {n : ℕ} → n ≡ pageCount t s → c ≡ putBits (1024 * p) pointer (1024 * s) (1024 * pageCount t s) (stays p t b s) b →
-      then ≡ writeRun withBit ((16 * p + 16 * s) * 64) (16 * n * 64) (λ i. false)
-      (writeRun withBit (16 * s * 64) (16 * n * 64) (λ i. bitAt c (i - 16 * s * 64 + (16 * p + 16 * s) * 64)) c) →
+  pub swept-words : (c : List ℕ) {then : List ℕ} {n : ℕ} → n ≡ pageCount t s → c ≡ putBits (pageWords * p) pointer (pageWords * s) (pageWords * pageCount t s) (stays p t b s) b →
+      then ≡ writeRun withBit ((pageBlocks * p + pageBlocks * s) * 64) (pageBlocks * n * 64) (λ i. false)
+      (writeRun withBit (pageBlocks * s * 64) (pageBlocks * n * 64) (λ i. bitAt c (i - pageBlocks * s * 64 + (pageBlocks * p + pageBlocks * s) * 64)) c) →
       (a roots : List ℕ) → then ≡ sweptBits (lent p a t b roots) s
   unfolding sweptBits
   swept-words c k e f a roots =
-      (rw k at f) ∙ rw e (sym (swept-parts (1024 * p) (1024 * s) (1024 * pageCount t s) (stays p t b s) b (omega (arith, placed S)) (omega (arith, S .bits)) (16 * s) (16 * p + 16 * s) (16 * pageCount t s) (omega arith) (omega arith) (omega arith)))
+      (rw k at f) ∙ rw e (sym (swept-parts (pageWords * p) (pageWords * s) (pageWords * pageCount t s) (stays p t b s) b (omega (arith, placed S)) (omega (arith, S .bits)) (pageBlocks * s) (pageBlocks * p + pageBlocks * s) (pageBlocks * pageCount t s) (omega arith) (omega arith) (omega arith)))
 
   -- the bits of a part that stand at allocated elements alone, counted over the span's words
   module _ (q : Part) (only : (w : ℕ) → T (bit p q b w) → T (bit p allocated b w)) where
-    start : (w : ℕ) → 1024 * s ≤ w → w < 1024 * (s + pageCount t s) → bit p q b w ≡ true → (startIn t s w ≡ w) × (elementNumber t s w < elements t s)
+    start : (w : ℕ) → pageWords * s ≤ w → w < pageWords * (s + pageCount t s) → bit p q b w ≡ true → (startIn t s w ≡ w) × (elementNumber t s w < elements t s)
     start w l m e =
         let E = S .members .element w (only w (is-true _ e)) in
         let h = at-home (S .spans) s w (S .starts) l m .1 in
         (rw h at (E .first), rw h at (E .lies .number))
 
-    inner : (k j : ℕ) → k < elements t s → 0 < j → j < elementWords t s → bit p q b (1024 * s + (k * elementWords t s + j)) ≡ false
-    inner k j l h i = go (bit p q b (1024 * s + (k * elementWords t s + j))) refl
+    inner : (k j : ℕ) → k < elements t s → 0 < j → j < elementWords t s → bit p q b (pageWords * s + (k * elementWords t s + j)) ≡ false
+    inner k j l h i = go (bit p q b (pageWords * s + (k * elementWords t s + j))) refl
       where
         last : (suc k) * elementWords t s ≤ elements t s * elementWords t s
         last = mul-le-mul-right (elementWords t s) l
 
-        go : (c : Bool) → bit p q b (1024 * s + (k * elementWords t s + j)) ≡ c → c ≡ false
+        go : (c : Bool) → bit p q b (pageWords * s + (k * elementWords t s + j)) ≡ c → c ≡ false
         go false e = refl
         go true e =
-            let w = 1024 * s + (k * elementWords t s + j) in
-            let room : w < 1024 * (s + pageCount t s) = omega (arith, rw (suc-mul k (elementWords t s)) at last, fits (S .spans) s (S .starts) .inside) in
+            let w = pageWords * s + (k * elementWords t s + j) in
+            let room : w < pageWords * (s + pageCount t s) = omega (arith, rw (suc-mul k (elementWords t s)) at last, fits (S .spans) s (S .starts) .inside) in
             let x = start w (omega arith) room e .0 in
             let y = start-is t s k w (omega arith) (omega arith) in
             absurd (omega (arith, x, y))
 
-    behind : (i : ℕ) → elements t s * elementWords t s ≤ i → i < 1024 * pageCount t s → bit p q b (1024 * s + i) ≡ false
-    behind i l h = go (bit p q b (1024 * s + i)) refl
+    behind : (i : ℕ) → elements t s * elementWords t s ≤ i → i < pageWords * pageCount t s → bit p q b (pageWords * s + i) ≡ false
+    behind i l h = go (bit p q b (pageWords * s + i)) refl
       where
-        go : (c : Bool) → bit p q b (1024 * s + i) ≡ c → c ≡ false
+        go : (c : Bool) → bit p q b (pageWords * s + i) ≡ c → c ≡ false
         go false e = refl
         go true e =
-            let x = start (1024 * s + i) (omega arith) (omega arith) e in
-            let n = elementNumber t s (1024 * s + i) in
+            let x = start (pageWords * s + i) (omega arith) (omega arith) e in
+            let n = elementNumber t s (pageWords * s + i) in
             absurd (omega (arith, x .0, rw (suc-mul n (elementWords t s)) at (mul-le-mul-right (elementWords t s) (x .1)), fits (S .spans) s (S .starts) .words))
 
-    pub part-counted : countBelow (1024 * pageCount t s) (λ j. bit p q b (1024 * s + j)) ≡ countBelow (elements t s) (λ k. bit p q b (elementStart t s k))
+    pub part-counted : countBelow (pageWords * pageCount t s) (λ j. bit p q b (pageWords * s + j)) ≡ countBelow (elements t s) (λ k. bit p q b (elementStart t s k))
     part-counted =
-        count-elements (1024 * pageCount t s) (elementWords t s) (elements t s) (λ j. bit p q b (1024 * s + j)) (fits (S .spans) s (S .starts) .words)
+        count-elements (pageWords * pageCount t s) (elementWords t s) (elements t s) (λ j. bit p q b (pageWords * s + j)) (fits (S .spans) s (S .starts) .words)
         (fits (S .spans) s (S .starts) .inside) inner behind
 
   -- what two counts of the bits of the span's words say
@@ -77,21 +77,21 @@ module _ (p : ℕ) (t b : List ℕ) (s : ℕ) (S : Sweepable p t b s) where
     pub freed : (a roots : List ℕ) → all - kept ≡ freedCount (lent p a t b roots) s
     pub left : (a roots : List ℕ) → nothingLeft (lent p a t b roots) s ≡ eqb kept 0
 
-  pub counted : (all kept : ℕ) → all ≡ countBelow (16 * pageCount t s * 64) (λ k. bitAt b (16 * s * 64 + k)) →
-      kept ≡ countBelow (16 * pageCount t s * 64) (λ k. bitAt b ((16 * p + 16 * s) * 64 + k)) → Counted all kept
+  pub counted : (all kept : ℕ) → all ≡ countBelow (pageBlocks * pageCount t s * 64) (λ k. bitAt b (pageBlocks * s * 64 + k)) →
+      kept ≡ countBelow (pageBlocks * pageCount t s * 64) (λ k. bitAt b ((pageBlocks * p + pageBlocks * s) * 64 + k)) → Counted all kept
   unfolding freedCount nothingLeft
   counted all kept e f = record { less = omega (arith, x, y, z); freed = λ a roots. omega (arith, x, y, z); left = λ a roots. none-counted (elements t s) (λ k. bit p marked b (elementStart t s k)) ∙ ap (λ n. eqb n 0) (sym y) }
     where
-      n : 16 * pageCount t s * 64 ≡ 1024 * pageCount t s
+      n : pageBlocks * pageCount t s * 64 ≡ pageWords * pageCount t s
       n = omega arith
 
       x : all ≡ countBelow (elements t s) (λ k. bit p allocated b (elementStart t s k))
-      x = let first : 16 * s * 64 ≡ 1024 * s = omega arith in
-          (rw (n, first) at e) ∙ sym (part-count (1024 * p) allocated (1024 * s) (1024 * pageCount t s) b (omega (arith, placed S))) ∙ part-counted allocated (λ w a. a)
+      x = let first : pageBlocks * s * 64 ≡ pageWords * s = omega arith in
+          (rw (n, first) at e) ∙ sym (part-count (pageWords * p) allocated (pageWords * s) (pageWords * pageCount t s) b (omega (arith, placed S))) ∙ part-counted allocated (λ w a. a)
 
       y : kept ≡ countBelow (elements t s) (λ k. bit p marked b (elementStart t s k))
-      y = let first : (16 * p + 16 * s) * 64 ≡ 1024 * p + 1024 * s = omega arith in
-          (rw (n, first) at f) ∙ sym (part-count (1024 * p) marked (1024 * s) (1024 * pageCount t s) b (omega (arith, placed S))) ∙ part-counted marked (S .members .marks)
+      y = let first : (pageBlocks * p + pageBlocks * s) * 64 ≡ pageWords * p + pageWords * s = omega arith in
+          (rw (n, first) at f) ∙ sym (part-count (pageWords * p) marked (pageWords * s) (pageWords * pageCount t s) b (omega (arith, placed S))) ∙ part-counted marked (S .members .marks)
 
       z : countBelow (elements t s) (λ k. bit p allocated b (elementStart t s k)) ≡
           countBelow (elements t s) (λ k. bit p allocated b (elementStart t s k) && not (bit p marked b (elementStart t s k))) + countBelow (elements t s) (λ k. bit p marked b (elementStart t s k))

@@ -3,6 +3,7 @@ use Prim.Native.Nat.{_-_, _*_, _≤_}
 use native.Mathlib.Omega.{arith}
 use mathlib.Core.Path.{_≡_}
 use borrow.Author.Tests.{not-true, not-false}
+use Rattle.model.specs.Memory.{pageWords}
 use Rattle.model.proofs.Tests.{is-true}
 use Rattle.audit_bits.specs.Needs.{Begins}
 use Rattle.audit_bits.specs.Words.{GoodWords}
@@ -11,7 +12,7 @@ use Rattle.audit_bits.proofs.bits_ok.Statement.{statement}
 use Rattle.audit_bits.proofs.bits_ok.Tie as tie
 
 abbrev Inv-loop : tie.InvT-loop
-Inv-loop p table bits phase g₀ g = (g ≤ p) × Edge table g × GoodWords p phase table bits 0 (1024 * g)
+Inv-loop p table bits phase g₀ g = (g ≤ p) × Edge table g × GoodWords p phase table bits 0 (pageWords * g)
 
 abbrev μ-loop : tie.MeasureT-loop
 μ-loop p table bits phase g₀ g = p - g

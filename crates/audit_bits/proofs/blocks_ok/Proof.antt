@@ -1,6 +1,7 @@
 -- The invariant: the words of k blocks keep the rules of the span, and off, left and before are as `Stands` says at block k.
 use Prim.Native.Nat.{_+_, _-_, _*_, _≤_}
 use mathlib.Core.Path.{_≡_}
+use Rattle.model.specs.Memory.{pageWords, pageBlocks}
 use Rattle.model.specs.Bounded.{allBelow}
 use native.Mathlib.Omega.{arith}
 use borrow.Author.Needs.{needs}
@@ -12,10 +13,10 @@ use Rattle.audit_bits.proofs.blocks_ok.Tie as tie
 
 abbrev Inv-loop : tie.InvT-loop
 Inv-loop p bits s count size held marks grays scan marked gray scans mask rest first pointers blocks k₀ off₀ left₀ before₀ k off left before =
-    (k ≤ 16 * count) × Stands p bits s size held marks grays scan k off left before
+    (k ≤ pageBlocks * count) × Stands p bits s size held marks grays scan k off left before
 
 abbrev μ-loop : tie.MeasureT-loop
-μ-loop p bits s count size held marks grays scan marked gray scans mask rest first pointers blocks k₀ off₀ left₀ before₀ k off left before = 16 * count - k
+μ-loop p bits s count size held marks grays scan marked gray scans mask rest first pointers blocks k₀ off₀ left₀ before₀ k off left before = pageBlocks * count - k
 
 flag-requires : tie.Need-flag-requires Inv-loop μ-loop
 flag-requires c κs = search needs
@@ -79,7 +80,7 @@ add-k c = search needs
 -- block k of the span was tested
 tested : (c : tie.After-block-ok Inv-loop μ-loop) → let l = c .before .before in
     let a = l .before .before .before .before .before .before .args in
-    c .block-ok .result ≡ allBelow 64 (λ j. wordRule (a .p) (a .bits .now) (1024 * a .s) (a .size) (a .held) (a .marks) (a .grays) (a .scan) (64 * l .loop .k + j))
+    c .block-ok .result ≡ allBelow 64 (λ j. wordRule (a .p) (a .bits .now) (pageWords * a .s) (a .size) (a .held) (a .marks) (a .grays) (a .scan) (64 * l .loop .k + j))
 tested c =
     let l = c .before .before in
     let m = l .before in

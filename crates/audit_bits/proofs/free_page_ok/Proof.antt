@@ -1,6 +1,7 @@
 -- The invariant: k blocks of the page have no bit.
 use Prim.Native.Nat.{ℕ, _+_, _-_, _*_, _<_, _≤_}
 use mathlib.Core.Path.{_≡_, _∙_}
+use Rattle.model.specs.Memory.{pageWords, pageBlocks}
 use Rattle.model.specs.Bounded.{allBelow}
 use native.Mathlib.Omega.{arith}
 use lib.Dec.{T}
@@ -12,10 +13,10 @@ use Rattle.audit_bits.proofs.free_page_ok.Statement.{statement}
 use Rattle.audit_bits.proofs.free_page_ok.Tie as tie
 
 abbrev Inv-loop : tie.InvT-loop
-Inv-loop p bits g first k₀ k = (k ≤ 16) × ((o : ℕ) → o < 64 * k → T (bare p bits (1024 * g + o)))
+Inv-loop p bits g first k₀ k = (k ≤ pageBlocks) × ((o : ℕ) → o < 64 * k → T (bare p bits (pageWords * g + o)))
 
 abbrev μ-loop : tie.MeasureT-loop
-μ-loop p bits g first k₀ k = 16 - k
+μ-loop p bits g first k₀ k = pageBlocks - k
 
 mul-first : tie.Need-mul-first Inv-loop μ-loop
 mul-first c = search needs
@@ -34,14 +35,14 @@ empty-requires c κs = search needs
 
 -- block k of the page was tested
 tested : (c : tie.After-empty Inv-loop μ-loop) → let l = c .before .before in
-    let a = l .before .before .args in c .empty .result ≡ allBelow 64 (λ j. bare (a .p) (a .bits .now) (1024 * a .g + (64 * l .loop .k + j)))
+    let a = l .before .before .args in c .empty .result ≡ allBelow 64 (λ j. bare (a .p) (a .bits .now) (pageWords * a .g + (64 * l .loop .k + j)))
 tested c =
     let l = c .before .before in
     let a = l .before .before .args in
     c .empty .ensures ∙ page-block (bare (a .p) (a .bits .now)) (a .g) (l .loop .k)
 
 returns : tie.Need-returns Inv-loop μ-loop
-returns c = fails _ _ 16 (omega arith) (tested (c .before)) (not-true _ (c .if1 .taken))
+returns c = fails _ _ pageBlocks (omega arith) (tested (c .before)) (not-true _ (c .if1 .taken))
 
 loop-less : tie.Need-loop-less Inv-loop μ-loop
 loop-less c = search needs
@@ -50,10 +51,10 @@ loop-again : tie.Need-loop-again Inv-loop μ-loop
 loop-again c =
     let l = c .before .before .before in
     let a = l .before .before .args in
-    (search needs, more (λ o. bare (a .p) (a .bits .now) (1024 * a .g + o)) (l .loop .k) (l .loop .inv .1) (tested (c .before)) (not-false _ (c .if1 .left)))
+    (search needs, more (λ o. bare (a .p) (a .bits .now) (pageWords * a .g + o)) (l .loop .k) (l .loop .inv .1) (tested (c .before)) (not-false _ (c .if1 .left)))
 
 returns-2 : tie.Need-returns-2 Inv-loop μ-loop
-returns-2 c = passes _ _ 16 (omega arith) (c .before .loop .inv .1)
+returns-2 c = passes _ _ pageBlocks (omega arith) (c .before .loop .inv .1)
 
 pub free-page-ok-spec : {M : Type 1} → statement M
 free-page-ok-spec =

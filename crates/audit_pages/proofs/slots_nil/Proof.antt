@@ -5,14 +5,15 @@ use native.Mathlib.Omega.{arith}
 use mathlib.Core.Path.{_≡_}
 use Prim.Native.Nat.{ℕ, _+_, _*_, _-_, _<_, _≤_}
 use borrow.Author.Needs.{needs}
+use Rattle.model.specs.Memory.{slotCount}
 use Rattle.audit_pages.proofs.slots_nil.Statement.{statement}
 use Rattle.audit_pages.proofs.slots_nil.Tie as tie
 
 abbrev Inv-loop : tie.InvT-loop
-Inv-loop roots s first i₀ i = (i ≤ 32) × (first ≡ 32 * s) × ((k : ℕ) → k < i → getD roots (32 * s + k) 0 ≡ 0)
+Inv-loop roots s first i₀ i = (i ≤ slotCount) × (first ≡ slotCount * s) × ((k : ℕ) → k < i → getD roots (slotCount * s + k) 0 ≡ 0)
 
 abbrev μ-loop : tie.MeasureT-loop
-μ-loop roots s first i₀ i = 32 - i
+μ-loop roots s first i₀ i = slotCount - i
 
 mul-first : tie.Need-mul-first Inv-loop μ-loop
 mul-first c = search needs

@@ -1,4 +1,5 @@
 -- The invariant: the stacks below s are as they should be.
+use Rattle.model.specs.Memory.{stackCount}
 use Rattle.model.proofs.Answers.{yes, no}
 use Rattle.audit_pages.specs.Stacks.{Stack}
 use borrow.Author.Count.{below-none, below-more}
@@ -9,10 +10,10 @@ use Rattle.audit_pages.proofs.stacks_ok.Statement.{statement}
 use Rattle.audit_pages.proofs.stacks_ok.Tie as tie
 
 abbrev Inv-loop : tie.InvT-loop
-Inv-loop roots s₀ s = (s ≤ 16) × ((k : ℕ) → k < s → Stack roots k)
+Inv-loop roots s₀ s = (s ≤ stackCount) × ((k : ℕ) → k < s → Stack roots k)
 
 abbrev μ-loop : tie.MeasureT-loop
-μ-loop roots s₀ s = 16 - s
+μ-loop roots s₀ s = stackCount - s
 
 loop-holds : tie.Need-loop-holds Inv-loop μ-loop
 loop-holds c = (search needs, below-none _)

@@ -1,4 +1,5 @@
 -- The invariant: the words below f are pointers and hold references.
+use Rattle.model.specs.Memory.{pageWords}
 use Rattle.audit_words.proofs.References.{pointer-is}
 use Rattle.audit_words.proofs.Contents.{stopped}
 use Rattle.model.specs.Facts.{Reference, bit}
@@ -18,7 +19,7 @@ use Rattle.audit_words.proofs.pointers_ok.Statement.{statement}
 use Rattle.audit_words.proofs.pointers_ok.Tie as tie
 
 abbrev Inv-loop : tie.InvT-loop
-Inv-loop p arena table bits w n first f₀ f = (f ≤ n) × (first ≡ 3 * (1024 * p) + w) × ((k : ℕ) → k < f → T (bit p pointer bits (w + k)) × Reference p table bits (getD arena (w + k) 0))
+Inv-loop p arena table bits w n first f₀ f = (f ≤ n) × (first ≡ 3 * (pageWords * p) + w) × ((k : ℕ) → k < f → T (bit p pointer bits (w + k)) × Reference p table bits (getD arena (w + k) 0))
 
 abbrev μ-loop : tie.MeasureT-loop
 μ-loop p arena table bits w n first f₀ f = n - f

@@ -1,4 +1,5 @@
 -- The slots, then the globals.
+use Rattle.model.specs.Memory.{firstGlobal, firstState}
 use Rattle.audit_words.proofs.Ranges.{range-join}
 use Rattle.model.proofs.Answers.{yes, no}
 use native.Mathlib.Omega.{arith}
@@ -20,7 +21,7 @@ returns-2 : tie.Need-returns-2
 returns-2 c =
     let slots = yes (c .before .before .slots-ok .result) (c .before .before .slots-ok .ensures) (c .before .if1 .left) in
     let a = c .before .before .before .before .before .before .args in
-    (λ x i l. range-join _ _ _ (now (a .roots)) 0 512 544 slots (c .range-ok .ensures .0 x) i (omega arith) l, λ h. c .range-ok .ensures .1 (λ i l m. h i m))
+    (λ x i l. range-join _ _ _ (now (a .roots)) 0 firstGlobal firstState slots (c .range-ok .ensures .0 x) i (omega arith) l, λ h. c .range-ok .ensures .1 (λ i l m. h i m))
 
 pub roots-ok-spec : {M : Type 1} → statement M
 roots-ok-spec = tie.close (tie.spec slots-ok-requires returns range-ok-requires returns-2)

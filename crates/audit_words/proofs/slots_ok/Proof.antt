@@ -1,4 +1,5 @@
 -- The invariant: the slots of the stacks below s are references.
+use Rattle.model.specs.Memory.{slotCount, pageBlocks}
 use Rattle.audit_words.specs.Contents.{Range}
 use Rattle.audit_words.proofs.Ranges.{range-join, closed-range}
 use Rattle.model.proofs.Answers.{yes, no}
@@ -10,10 +11,10 @@ use Rattle.audit_words.proofs.slots_ok.Statement.{statement}
 use Rattle.audit_words.proofs.slots_ok.Tie as tie
 
 abbrev Inv-loop : tie.InvT-loop
-Inv-loop p table bits roots swept s₀ s = (s ≤ 16) × Range p table bits roots 0 (32 * s)
+Inv-loop p table bits roots swept s₀ s = (s ≤ pageBlocks) × Range p table bits roots 0 (slotCount * s)
 
 abbrev μ-loop : tie.MeasureT-loop
-μ-loop p table bits roots swept s₀ s = 16 - s
+μ-loop p table bits roots swept s₀ s = pageBlocks - s
 
 loop-holds : tie.Need-loop-holds Inv-loop μ-loop
 loop-holds c = (search needs, λ i l m. absurd (omega arith))
@@ -50,7 +51,7 @@ loop-again c =
     let l = c .before .before .before .before .before .loop in
     let a = c .before .before .before .before .before .before .before .before .before .args in
     let next = yes (c .before .range-ok .result) (c .before .range-ok .ensures) (c .if2 .left) in
-    (search needs, range-join _ _ _ (now (a .roots)) 0 (32 * l .s) _ (l .inv .1) (λ i m n. next i (omega arith) (omega arith)))
+    (search needs, range-join _ _ _ (now (a .roots)) 0 (slotCount * l .s) _ (l .inv .1) (λ i m n. next i (omega arith) (omega arith)))
 
 loop-less-2 : tie.Need-loop-less-2 Inv-loop μ-loop
 loop-less-2 c = search needs
@@ -60,7 +61,7 @@ loop-again-2 c =
     let l = c .before .before .before .loop in
     let z = c .before .before .before .before .before .before .before in
     let next = closed-range (z .args .p) (now (z .args .table)) (now (z .args .bits)) _ (z .pre .3) (l .s) (omega arith) (c .if1 .left) in
-    (search needs, range-join _ _ _ (now (z .args .roots)) 0 (32 * l .s) _ (l .inv .1) (λ i m n. next i m (omega arith)))
+    (search needs, range-join _ _ _ (now (z .args .roots)) 0 (slotCount * l .s) _ (l .inv .1) (λ i m n. next i m (omega arith)))
 
 returns-2 : tie.Need-returns-2 Inv-loop μ-loop
 returns-2 c = let l = c .before .loop in (λ _ i m n. l .inv .1 i m (omega arith), λ _. tt)

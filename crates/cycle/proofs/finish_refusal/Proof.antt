@@ -5,7 +5,7 @@ use mathlib.Core.Path.{refl, sym, _∙_}
 use native.Mathlib.Omega.{arith}
 use borrow.Author.Tests.{eq-eqb, ne-eqb, lt-ltb, le-ltb}
 use denote.Ref.{now}
-use Rattle.model.specs.Memory.{lent}
+use Rattle.model.specs.Memory.{lent, pageWords}
 use Rattle.model.specs.Cycle.{firstGray}
 use Rattle.cycle.proofs.Finishing.{refusal-is, wrong-phase}
 use borrow.Author.Needs.{needs}
@@ -46,13 +46,13 @@ returns-4 : tie.Need-returns-4
 returns-4 c =
     let e = c .before .before .before .before .before .before .before .before .before .before .args in
     λ a t. refusal-is (e .p) a t (now (e .bits)) (now (e .roots)) false false true (c .before .before .before .before .before .before .if1 .left) (sym (c .before .before .before .before .before .some-gray .ensures) ∙ c .before .before .before .before .if2 .left) (ne-eqb _ _ (c .before .before .if3 .left))
-    (lt-ltb (firstGray (lent (e .p) a t (now (e .bits)) (now (e .roots)))) (1024 * e .p) (omega (arith, c .if4 .taken, c .before .first-gray .ensures a t (now (e .roots)))))
+    (lt-ltb (firstGray (lent (e .p) a t (now (e .bits)) (now (e .roots)))) (pageWords * e .p) (omega (arith, c .if4 .taken, c .before .first-gray .ensures a t (now (e .roots)))))
 
 returns-5 : tie.Need-returns-5
 returns-5 c =
     let e = c .before .before .before .before .before .before .before .before .before .before .args in
     λ a t. refusal-is (e .p) a t (now (e .bits)) (now (e .roots)) false false false (c .before .before .before .before .before .before .if1 .left) (sym (c .before .before .before .before .before .some-gray .ensures) ∙ c .before .before .before .before .if2 .left) (ne-eqb _ _ (c .before .before .if3 .left))
-    (le-ltb (firstGray (lent (e .p) a t (now (e .bits)) (now (e .roots)))) (1024 * e .p) (omega (arith, c .if4 .left, c .before .first-gray .ensures a t (now (e .roots)))))
+    (le-ltb (firstGray (lent (e .p) a t (now (e .bits)) (now (e .roots)))) (pageWords * e .p) (omega (arith, c .if4 .left, c .before .first-gray .ensures a t (now (e .roots)))))
 
 pub finish-refusal-spec : {M : Type 1} → statement M
 finish-refusal-spec =

@@ -6,16 +6,17 @@ use native.Mathlib.Omega.{arith}
 use denote.Ref.{now}
 use borrow.Author.Count.{below-more}
 use borrow.Author.Tests.{eq-eqb, ne-eqb}
+use Rattle.model.specs.Memory.{stackCount}
 use Rattle.cycle.proofs.Finishing.{grayStack, some-yes, some-no}
 use borrow.Author.Needs.{needs}
 use Rattle.cycle.proofs.some_gray.Statement.{statement}
 use Rattle.cycle.proofs.some_gray.Tie as tie
 
 abbrev Inv-loop : tie.InvT-loop
-Inv-loop roots s₀ s = (s ≤ 16) × ((k : ℕ) → k < s → grayStack roots k ≡ false)
+Inv-loop roots s₀ s = (s ≤ stackCount) × ((k : ℕ) → k < s → grayStack roots k ≡ false)
 
 abbrev μ-loop : tie.MeasureT-loop
-μ-loop roots s₀ s = 16 - s
+μ-loop roots s₀ s = stackCount - s
 
 loop-holds : tie.Need-loop-holds Inv-loop μ-loop
 loop-holds c = (search needs, λ k l. absurd (omega arith))
@@ -30,7 +31,7 @@ shared-slice-read-if1 : tie.Need-shared-slice-read-if1 Inv-loop μ-loop
 shared-slice-read-if1 c = search needs
 
 returns : tie.Need-returns Inv-loop μ-loop
-returns c = sym (some-yes 16 (grayStack (now (c .before .before .before .before .args .roots))) (c .before .before .before .loop .s) (c .before .before .loop-test .taken) (eq-eqb _ _ (c .if1 .taken)))
+returns c = sym (some-yes stackCount (grayStack (now (c .before .before .before .before .args .roots))) (c .before .before .before .loop .s) (c .before .before .loop-test .taken) (eq-eqb _ _ (c .if1 .taken)))
 
 add-s : tie.Need-add-s Inv-loop μ-loop
 add-s c = search needs
@@ -43,8 +44,8 @@ loop-again c = (omega arith, below-more _ _ (c .before .before .before .loop .in
 
 returns-2 : tie.Need-returns-2 Inv-loop μ-loop
 returns-2 c =
-    let e : c .before .loop .s ≡ 16 = omega arith in
-    sym (some-no 16 (grayStack (now (c .before .before .args .roots))) (rw e at (c .before .loop .inv .1)))
+    let e : c .before .loop .s ≡ stackCount = omega arith in
+    sym (some-no stackCount (grayStack (now (c .before .before .args .roots))) (rw e at (c .before .loop .inv .1)))
 
 pub some-gray-spec : {M : Type 1} → statement M
 some-gray-spec =

@@ -3,7 +3,7 @@ use Prim.Native.Nat.{_<_}
 use mathlib.Core.Path.{sym, _∙_}
 use native.Mathlib.Omega.{arith}
 use borrow.Author.Tests.{eqb-true, eqb-false}
-use Rattle.model.specs.Memory.{lent}
+use Rattle.model.specs.Memory.{lent, stackCount, slotCount}
 use Rattle.root_checks.proofs.Passed.{slot-bounds}
 use Rattle.fields.proofs.Fields.{slot-record}
 use Rattle.fields.proofs.Chains.{number-slot, number-nil, number-yes, number-no}
@@ -12,7 +12,7 @@ use Rattle.fields.proofs.number_refusal.Statement.{statement}
 use Rattle.fields.proofs.number_refusal.Tie as tie
 
 -- a call that is not refused: the bounds of its numbers
-bounds : (c : tie.Else1) → let a = c .before .before .before .before .before .args in (a .s < 16) × (a .j < 32)
+bounds : (c : tie.Else1) → let a = c .before .before .before .before .before .args in (a .s < stackCount) × (a .j < slotCount)
 bounds c = slot-bounds (c .before .before .before .before .before .args .roots .now) _ _ (c .before .slot-refusal .ensures) (c .if1 .left)
 
 slot-refusal-requires : tie.Need-slot-refusal-requires

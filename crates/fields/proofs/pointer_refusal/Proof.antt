@@ -3,7 +3,7 @@ use Prim.Native.Nat.{_<_}
 use mathlib.Core.Path.{sym, _∙_}
 use native.Mathlib.Omega.{arith}
 use borrow.Author.Tests.{eqb-true, eqb-false}
-use Rattle.model.specs.Memory.{lent}
+use Rattle.model.specs.Memory.{lent, stackCount, slotCount}
 use Rattle.root_checks.proofs.Passed.{slots-bounds}
 use Rattle.fields.proofs.Fields.{slot-record}
 use Rattle.fields.proofs.Chains.{pointer-slots, pointer-nil, pointer-yes, pointer-no}
@@ -12,7 +12,7 @@ use Rattle.fields.proofs.pointer_refusal.Statement.{statement}
 use Rattle.fields.proofs.pointer_refusal.Tie as tie
 
 -- a call that is not refused: the bounds of its numbers
-bounds : (c : tie.Else1) → let a = c .before .before .before .before .before .args in (a .s < 16) × (a .i < 32) × (a .j < 32)
+bounds : (c : tie.Else1) → let a = c .before .before .before .before .before .args in (a .s < stackCount) × (a .i < slotCount) × (a .j < slotCount)
 bounds c = slots-bounds (c .before .before .before .before .before .args .roots .now) _ _ _ (c .before .slots-refusal .ensures) (c .if1 .left)
 
 slots-refusal-requires : tie.Need-slots-refusal-requires

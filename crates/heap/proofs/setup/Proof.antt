@@ -4,6 +4,7 @@ use mathlib.Core.Path.{_≡_, ap, _∙_}
 use native.Mathlib.Omega.{arith}
 use lib.ListN.{length, length-replicate}
 use borrow.Author.Tests.{not-false}
+use Rattle.model.specs.Memory.{rootWords}
 use Rattle.model.proofs.Tests.{is-true}
 use Rattle.heap.proofs.Emptied.{setup-refused, setup-done}
 use Rattle.heap.proofs.setup.Statement.{statement}
@@ -37,7 +38,7 @@ slice-write-roots : tie.Need-slice-write-roots
 slice-write-roots c =
     let t = c .before .before .before .before .before .before .before .before .before .before .before .before in
     let Z = t .before .buffers-ok .ensures .0 (is-true (t .before .buffers-ok .result) (not-false (t .before .buffers-ok .result) (t .if1 .left))) in
-    let l : length (c .before .before .zero2 .last .0) ≡ 562 = ap length (c .before .before .zero2 .ensures) ∙ length-replicate (length (t .before .before .before .before .before .before .before .before .before .args .roots .now)) 0 ∙ Z .roots in
+    let l : length (c .before .before .zero2 .last .0) ≡ rootWords = ap length (c .before .before .zero2 .ensures) ∙ length-replicate (length (t .before .before .before .before .before .before .before .before .before .args .roots .now)) 0 ∙ Z .roots in
     omega (arith, l)
 
 same-length-4 : tie.Need-same-length-4

@@ -3,16 +3,17 @@ use Prim.Native.Nat.{_-_, _≤_}
 use mathlib.Core.Path.{_≡_}
 use native.Mathlib.Omega.{arith}
 use denote.Ref.{now}
+use Rattle.model.specs.Memory.{stackCount}
 use Rattle.scanning.proofs.Starting.{Grayed, none-grayed, one-grayed}
 use borrow.Author.Needs.{needs}
 use Rattle.scanning.proofs.gray_stacks.Statement.{statement}
 use Rattle.scanning.proofs.gray_stacks.Tie as tie
 
 abbrev Inv-loop : tie.InvT-loop
-Inv-loop roots₀ done₀ roots done = (done ≤ 16) × Grayed roots₀ done roots
+Inv-loop roots₀ done₀ roots done = (done ≤ stackCount) × Grayed roots₀ done roots
 
 abbrev μ-loop : tie.MeasureT-loop
-μ-loop roots₀ done₀ roots done = 16 - done
+μ-loop roots₀ done₀ roots done = stackCount - done
 
 loop-holds : tie.Need-loop-holds Inv-loop μ-loop
 loop-holds c = (search needs, none-grayed (now (c .before .args .roots)) (c .before .pre))
@@ -51,7 +52,7 @@ same-length c = omega (arith, c .before .loop .inv .1 .long, c .before .before .
 
 returns : tie.Need-returns Inv-loop μ-loop
 returns c =
-    let e : c .before .loop .done ≡ 16 = omega arith in
+    let e : c .before .loop .done ≡ stackCount = omega arith in
     rw e at (c .before .loop .inv .1 .is)
 
 pub gray-stacks-spec : {M : Type 1} → statement M

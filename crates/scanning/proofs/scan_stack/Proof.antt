@@ -2,13 +2,13 @@
 use Prim.Native.Nat.{_<_}
 use native.Mathlib.Omega.{arith}
 use denote.Ref.{now}
-use Rattle.model.specs.Memory.{lent}
+use Rattle.model.specs.Memory.{lent, stackCount}
 use Rattle.scanning.proofs.Scanning.{scannable, stack-refused, stack-scanned, stack-below}
 use borrow.Author.Needs.{needs}
 use Rattle.scanning.proofs.scan_stack.Statement.{statement}
 use Rattle.scanning.proofs.scan_stack.Tie as tie
 
-below : (c : tie.Else1) → c .before .before .before .before .before .before .args .s < 16
+below : (c : tie.Else1) → c .before .before .before .before .before .before .args .s < stackCount
 below c =
     let a = c .before .before .before .before .before .before .args in
     let x = c .before .before .before .before .before .before .pre .0 in

@@ -2,7 +2,7 @@
 use Prim.Native.Nat.{_<_}
 use mathlib.Core.Path.{sym, _∙_}
 use native.Mathlib.Omega.{arith}
-use Rattle.model.specs.Memory.{lent}
+use Rattle.model.specs.Memory.{lent, stackCount, slotCount}
 use Rattle.model.proofs.Outcomes.{refused, accepted}
 use Rattle.model.specs.Records.{copy}
 use Rattle.root_checks.proofs.Passed.{slots-bounds}
@@ -11,7 +11,7 @@ use Rattle.stacks.proofs.copy.Statement.{statement}
 use Rattle.stacks.proofs.copy.Tie as tie
 
 -- a call that is not refused: the bounds of its numbers
-bounds : (c : tie.Else1) → let a = c .before .before .before .before .args in (a .s < 16) × (a .i < 32) × (a .j < 32)
+bounds : (c : tie.Else1) → let a = c .before .before .before .before .args in (a .s < stackCount) × (a .i < slotCount) × (a .j < slotCount)
 bounds c = slots-bounds (c .before .before .before .before .args .roots .now) _ _ _ (c .before .slots-refusal .ensures) (c .if1 .left)
 
 slots-refusal-requires : tie.Need-slots-refusal-requires

@@ -2,7 +2,7 @@
 use Prim.Native.Nat.{_<_}
 use mathlib.Core.Path.{sym, _∙_}
 use native.Mathlib.Omega.{arith}
-use Rattle.model.specs.Memory.{lent}
+use Rattle.model.specs.Memory.{lent, stackCount, slotCount, globalCount}
 use Rattle.model.proofs.Outcomes.{refused, accepted}
 use Rattle.model.specs.Records.{loadGlobal}
 use Rattle.root_checks.proofs.Passed.{global-bounds}
@@ -11,7 +11,7 @@ use Rattle.stacks.proofs.load_global.Statement.{statement}
 use Rattle.stacks.proofs.load_global.Tie as tie
 
 -- a call that is not refused: the bounds of its numbers
-bounds : (c : tie.Else1) → let a = c .before .before .before .before .args in (a .s < 16) × (a .i < 32) × (a .g < 32)
+bounds : (c : tie.Else1) → let a = c .before .before .before .before .args in (a .s < stackCount) × (a .i < slotCount) × (a .g < globalCount)
 bounds c = global-bounds (c .before .before .before .before .args .roots .now) _ _ _ (c .before .global-refusal .ensures) (c .if1 .left)
 
 global-refusal-requires : tie.Need-global-refusal-requires

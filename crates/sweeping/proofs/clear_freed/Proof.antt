@@ -3,6 +3,7 @@ use Prim.Native.Nat.{_+_, _-_, _*_, _≤_}
 use mathlib.Core.Path.{_≡_}
 use native.Mathlib.Omega.{arith}
 use denote.Ref.{now}
+use Rattle.model.specs.Memory.{pageWords}
 use Rattle.sweeping.proofs.Places.{placed}
 use Rattle.sweeping.proofs.Pointers.{Cleared, begun, cleared-next, cleared-all, noscan-same, freed-whole}
 use Rattle.model.specs.Spans.{elementWords}
@@ -21,7 +22,7 @@ size-is : (c : tie.After-element-words Inv-loop μ-loop) → c .element-words .r
 size-is c = rw (c .before .page-count .ensures, c .before .before .before .kind-entry .ensures) at (c .element-words .ensures)
 
 -- the freed element at `at` is whole
-at-whole : (c : tie.In-loop Inv-loop μ-loop) → c .before .loop .at + elementWords (now (c .before .before .before .before .before .before .before .before .before .before .args .table)) (c .before .before .before .before .before .before .before .before .before .before .args .s) ≤ 1024 * (c .before .before .before .before .before .before .before .before .before .before .args .s + c .before .before .before .before .before .page-count .result)
+at-whole : (c : tie.In-loop Inv-loop μ-loop) → c .before .loop .at + elementWords (now (c .before .before .before .before .before .before .before .before .before .before .args .table)) (c .before .before .before .before .before .before .before .before .before .before .args .s) ≤ pageWords * (c .before .before .before .before .before .before .before .before .before .before .args .s + c .before .before .before .before .before .page-count .result)
 at-whole c =
     let a = c .before .before .before .before .before .before .before .before .before .before .args in
     let h = rw (c .before .before .before .before .before .page-count .ensures) at (c .loop-test .taken) in
