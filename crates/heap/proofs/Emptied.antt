@@ -9,13 +9,14 @@ use Rattle.model.specs.Memory.{Heap, goodBuffers, globalsStateAt, openState}
 use Rattle.model.specs.Answers.{Meets, _given_}
 use Rattle.model.specs.Checks.{buffersRefusal}
 use Rattle.model.specs.Records.{fresh, setup}
+use Rattle.model.specs.Calls.{Setup, run}
 use Rattle.model.specs.declared.Answer.the-variants.{Refused, Done}
 use Rattle.model.proofs.Tests.{of-true, is-true}
 use Rattle.model.specs.Facts.{Sized}
 use Rattle.model.proofs.Audit.{sized, sized-good}
 use Rattle.model.proofs.Outcomes.{refused, accepted}
 
-pub setup-refused : (h : Heap) (b : Bool) → (T b ↔ Sized h) → not b ≡ true → Meets (setup h) (Refused 1) (h .arena) (h .table) (h .bits) (h .roots)
+pub setup-refused : (h : Heap) (b : Bool) → (T b ↔ Sized h) → not b ≡ true → Meets (run h Setup) (Refused 1) (h .arena) (h .table) (h .bits) (h .roots)
 unfolding setup
 setup-refused h b f e = refused (buffersRefusal h) h Done (fresh h) (go (goodBuffers h) refl b f e) (omega arith)
   where
@@ -24,7 +25,7 @@ setup-refused h b f e = refused (buffersRefusal h) h Done (fresh h) (go (goodBuf
     go true p false f e = absurd (f .1 (sized h (is-true (goodBuffers h) p)))
     go false p b f e = unfold _given_ in refl
 
-pub setup-done : (h : Heap) → Sized h → Meets (setup h) Done (h .arena) (replicate (length (h .table)) 0) (replicate (length (h .bits)) 0) (set (replicate (length (h .roots)) 0) globalsStateAt openState)
+pub setup-done : (h : Heap) → Sized h → Meets (run h Setup) Done (h .arena) (replicate (length (h .table)) 0) (replicate (length (h .bits)) 0) (set (replicate (length (h .roots)) 0) globalsStateAt openState)
 unfolding setup fresh
 setup-done h Z =
     let g = of-true (goodBuffers h) (sized-good h Z) in

@@ -1,43 +1,18 @@
--- Setup: the fresh heap passes the audit, and its view is the theory's fresh heap.
-use Prim.Native.Nat.{ℕ, _+_, _-_, _*_, _/_, _%_, _^_}
+-- Setup: the view of the fresh heap is the theory's fresh heap.
+use Prim.Native.Nat.{ℕ, _+_, _*_}
 use mathlib.Core.List.{List}
-use mathlib.Core.Bool.{Bool, true, false, not, cond, _&&_, and-false, true≢false}
-use mathlib.Core.Logic.{inl, _≢_}
-use mathlib.Core.Path.{_≡_, refl, ap, sym, _∙_}
+use mathlib.Core.Bool.{Bool, true, false, not, cond, _&&_}
+use mathlib.Core.Path.{_≡_, refl, ap}
 use native.Mathlib.Omega.{arith}
-use native.Mathlib.Nat.{zero-div}
-use lib.ListN.{getD, set, length-set, replicate, length-replicate, getD-replicate, List·getD-eq-default}
-use lib.Dec.{T, eqb, ltb}
-use borrow.Author.Tests.{ltb-true, ltb-false, ne-eqb}
+use lib.ListN.{getD, set}
+use lib.Dec.{eqb, ltb}
+use borrow.Author.Tests.{ltb-true}
 use Rattle.marking.specs.Trace.{Fresh}
-use Rattle.model.specs.Memory.{Heap, stackCount, slotCount, globalCount, firstGlobal, firstState, globalsStateAt, phaseAt, rootWords, pageWords, entryNumbers, bitmapWords, wordBits}
-use Rattle.model.specs.Bitmaps.{Part, allocated, marked, gray, pointer, bitIn, bitAt, bitOf, place}
-use Rattle.model.specs.Spans.{owner, pageCount, kindEntry}
+use Rattle.model.specs.Memory.{Heap, stackCount, slotCount, globalCount, firstGlobal, firstState, globalsStateAt, phaseAt, rootWords, pageWords, bitmapWords, openState}
+use Rattle.model.specs.Bitmaps.{allocated}
 use Rattle.model.specs.Records.{fresh}
-use Rattle.model.proofs.Tests.{of-true}
-use Rattle.model.proofs.Words.{set-at}
-use Rattle.model.specs.Facts.{Audited, Sized}
+use Rattle.keeps.proofs.Fresh.{zeros, no-bit, fresh-root, fresh-nil}
 use Rattle.history.proofs.View.{view, phaseOf}
-
-abbrev zeros : ℕ → List ℕ
-zeros n = replicate n 0
-
-zero-at : (n i : ℕ) → getD (zeros n) i 0 ≡ 0
-zero-at n i = go (ltb i n) refl
-  where
-    go : (b : Bool) → ltb i n ≡ b → getD (zeros n) i 0 ≡ 0
-    go true e = getD-replicate n i 0 0 (ltb-true i n e)
-    go false e = List·getD-eq-default (zeros n) 0 (rw (length-replicate {A = ℕ} n 0) (ltb-false i n e))
-
-no-bit : (n m : ℕ) (q : Part) (w : ℕ) → bitIn n q (zeros m) w ≡ false
-unfolding bitIn bitAt bitOf
-no-bit n m q w = rw (zero-at m (place n q w / wordBits), zero-div (2 ^ (place n q w % wordBits))) (and-false (ltb w n))
-
-root-is : (x : ℕ) → getD (set (zeros rootWords) globalsStateAt 1) x 0 ≡ cond (eqb x globalsStateAt) 1 0
-root-is x = rw (set-at (zeros rootWords) globalsStateAt 1 (rw (length-replicate {A = ℕ} rootWords 0) (omega arith)) x, zero-at rootWords x)
-
-root-nil : (x : ℕ) → x ≢ globalsStateAt → getD (set (zeros rootWords) globalsStateAt 1) x 0 ≡ 0
-root-nil x d = rw (root-is x, ne-eqb x globalsStateAt d)
 
 pub fresh-view : (h : Heap) → Fresh (view (fresh h))
 unfolding view fresh
@@ -46,66 +21,21 @@ fresh-view h = record {
   slots = λ t i. slots t i (ltb t stackCount) refl (ltb i slotCount) refl;
   globals = λ g. globals g (ltb g globalCount) refl;
   opened = λ t. opened t (ltb t stackCount) refl;
-  phase = ap phaseOf (root-is phaseAt);
+  phase = ap phaseOf (fresh-root phaseAt);
 }
   where
     r : List ℕ
-    r = set (zeros rootWords) globalsStateAt 1
+    r = set (zeros rootWords) globalsStateAt openState
 
     slots : (t i : ℕ) (a : Bool) → ltb t stackCount ≡ a → (b : Bool) → ltb i slotCount ≡ b → cond (a && b) (getD r (slotCount * t + i) 0) 0 ≡ 0
-    slots t i true e true f = root-nil (slotCount * t + i) (omega (arith, ltb-true t stackCount e, ltb-true i slotCount f))
+    slots t i true e true f = fresh-nil (slotCount * t + i) (omega (arith, ltb-true t stackCount e, ltb-true i slotCount f))
     slots t i true e false f = refl
     slots t i false e b f = refl
 
     globals : (g : ℕ) (a : Bool) → ltb g globalCount ≡ a → cond a (getD r (firstGlobal + g) 0) 0 ≡ 0
-    globals g true e = root-nil (firstGlobal + g) (omega (arith, ltb-true g globalCount e))
+    globals g true e = fresh-nil (firstGlobal + g) (omega (arith, ltb-true g globalCount e))
     globals g false e = refl
 
     opened : (t : ℕ) (a : Bool) → ltb t stackCount ≡ a → (a && not (eqb (getD r (firstState + t) 0) 0)) ≡ false
-    opened t true e = rw (root-nil (firstState + t) (omega (arith, ltb-true t stackCount e)))
+    opened t true e = rw (fresh-nil (firstState + t) (omega (arith, ltb-true t stackCount e)))
     opened t false e = refl
-
-pub fresh-kept : (h : Heap) → Sized h → Audited (fresh h)
-unfolding fresh owner pageCount kindEntry
-fresh-kept h Z = record {
-  sized = record {
-    low = Z .low;
-    high = Z .high;
-    arena = Z .arena;
-    table = length-replicate (entryNumbers * h .pages) 0;
-    bits = length-replicate (bitmapWords * h .pages) 0;
-    roots = length-set (zeros rootWords) globalsStateAt 1 ∙ length-replicate {A = ℕ} rootWords 0;
-  };
-  spans = record {
-    whose = λ g y. absurd (omega (arith, zero-at (entryNumbers * h .pages) (entryNumbers * g)));
-    body = λ s g e. absurd (omega (arith, zero-at (entryNumbers * h .pages) (entryNumbers * s)));
-    inside = λ s e. absurd (omega (arith, zero-at (entryNumbers * h .pages) (entryNumbers * s)));
-    rest = λ g d. (zero-at (entryNumbers * h .pages) (entryNumbers * g + 1), zero-at (entryNumbers * h .pages) (entryNumbers * g + 2));
-    entry = λ s e. absurd (omega (arith, zero-at (entryNumbers * h .pages) (entryNumbers * s)));
-  };
-  bits = record {
-    element = λ w a. absurd (none allocated w a);
-    marks = λ w a. absurd (none marked w a);
-    grays = λ w a. absurd (none gray w a);
-    pointers = λ w a. absurd (none pointer w a);
-    head = λ w a. absurd (none allocated w a);
-    run = λ w a. absurd (none pointer w a);
-  };
-  phases = record {
-    none = λ e w. no-bit (pageWords * h .pages) (bitmapWords * h .pages) marked w;
-    swept = λ d s e. absurd (omega (arith, zero-at (entryNumbers * h .pages) (entryNumbers * s)));
-    plain = λ d w. no-bit (pageWords * h .pages) (bitmapWords * h .pages) gray w;
-    unswept = λ e w a. absurd (none marked w a);
-  };
-  references = record { root = λ x l. inl (root-nil x (omega arith)); content = λ v a. absurd (none pointer v a) };
-  states = record {
-    phase = rw (root-nil phaseAt (omega arith)) (omega arith);
-    legal = λ s l. rw (root-nil (firstState + s) (omega arith)) (omega arith, λ e. absurd (omega arith));
-    globals = rw (root-is globalsStateAt) (omega arith, omega arith, λ e. absurd (omega arith));
-    closed = λ s i l m e. root-nil (slotCount * s + i) (omega arith);
-  };
-  occupied = λ s e. absurd (omega (arith, zero-at (entryNumbers * h .pages) (entryNumbers * s)));
-}
-  where
-    none : (q : Part) (w : ℕ) → T (bitIn (pageWords * h .pages) q (zeros (bitmapWords * h .pages)) w) → ⊥
-    none q w a = true≢false (sym (of-true _ a) ∙ no-bit (pageWords * h .pages) (bitmapWords * h .pages) q w)

@@ -4,10 +4,10 @@ use mathlib.Core.List.{List, [], _∷_}
 use mathlib.Core.Path.{_≡_, refl, ap, _∙_}
 use lib.Dec.{T}
 use Rattle.model.specs.Memory.{Heap, lent}
-use Rattle.model.specs.Answers.{Meets, Outcome}
+use Rattle.model.specs.Answers.{Meets, Outcome, accepted}
 use Rattle.model.specs.Calls.{Request, step, answers, after}
 use Rattle.model.specs.declared.Answer.{Answer}
-use Rattle.history.specs.Ledger.{onPages, accepted}
+use Rattle.history.specs.Ledger.{onPages}
 use Rattle.history.specs.Demand.{setupOf, Demand}
 use Rattle.history.specs.Beyond.{Beyond}
 use Rattle.history.specs.Implementation.{Ran, nothing, call, Same}
@@ -24,7 +24,7 @@ module _ (h g : Heap) (e : onPages 0 h ≡ onPages 0 g) where
   pub same-answers : (rs : List Request) → answers h rs ≡ answers g rs
   unfolding answers
   same-answers [] = refl
-  same-answers (r ∷ rs) = rw (same-step r)
+  same-answers (r ∷ rs) = ap (λ (o : Outcome). o .answer ∷ answers (o .heap) rs) (same-step r)
 
   pub same-after : (rs : List Request) (P : ℕ) → onPages P (after h rs) ≡ onPages P (after g rs)
   unfolding after

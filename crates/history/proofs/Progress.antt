@@ -17,8 +17,8 @@ use Rattle.marking.proofs.Advance.{advancing}
 use Rattle.marking.specs.Advance
 use Rattle.marking.proofs.Freed.{Reached, reached-step}
 use Rattle.model.specs.Bounded.{countBelow, someBelow}
-use Rattle.model.specs.Memory.{Heap, phase, state, globalsState, words, stackCount, firstState, globalsStateAt, phaseAt, addressOf, unsweptFlag}
-use Rattle.model.specs.Answers.{_given_, _orElse_}
+use Rattle.model.specs.Memory.{Heap, phase, state, globalsState, words, stackCount, firstState, globalsStateAt, phaseAt, addressOf, unsweptFlag, grayState, mark, off, sweep}
+use Rattle.model.specs.Answers.{_given_, _orElse_, unfinished}
 use Rattle.model.specs.Spans.{kindEntry, startsSpan, isUnswept}
 use Rattle.model.specs.Checks.{phaseRefusal, openRefusal}
 use Rattle.model.specs.Cycle.{sweptTable, start, scanStack, scanGlobals, markStep, finish, sweepStep, firstGray, firstUnswept, finishRefusal}
@@ -34,11 +34,12 @@ use Rattle.history.specs.Beyond.{Collects, startOf, finishOf, sweepOf}
 use Rattle.keeps.proofs.Roots.{root-other}
 use Rattle.keeps.proofs.SweptTable.{unswept-less}
 use Rattle.history.proofs.View.{view}
-use Rattle.history.proofs.CycleCalls.{first-unswept}
+use Rattle.keeps.proofs.Calls.{first-unswept}
+use Rattle.history.proofs.Stages.{StepOn, step-as}
 use Rattle.history.proofs.Runs.{made, at-once}
 
 -- a start in phase off, a finish with nothing gray
-begin : {h : Heap} → Audited h → phase h ≡ 0 → event Start (run h Start .answer) ≡ Event.start
+begin : {h : Heap} → Audited h → phase h ≡ off → event Start (run h Start .answer) ≡ Event.start
 unfolding start _given_
 begin {h} F e = rw (entry-passes h F, e)
 
@@ -47,55 +48,55 @@ unfolding finish
 done {h} F e = rw (entry-passes h F, e)
 
 -- the calls of the mark phase that find something gray: the event, and the phase afterwards
-scan-event : {h : Heap} → Audited h → phase h ≡ 1 → (s : ℕ) → s < stackCount → state h s ≡ 2 →
-    (event (ScanStack s) (run h (ScanStack s) .answer) ≡ Event.scanStack s) × (phase (run h (ScanStack s) .heap) ≡ 1)
+scan-event : {h : Heap} → Audited h → phase h ≡ mark → (s : ℕ) → s < stackCount → state h s ≡ grayState →
+    (event (ScanStack s) (run h (ScanStack s) .answer) ≡ Event.scanStack s) × (phase (run h (ScanStack s) .heap) ≡ mark)
 unfolding scanStack
 scan-event {h} F one s l e = rw (entry-passes h F, passed, eq-eqb (state h s) 2 e) (refl, root-other F (firstState + s) 1 (omega arith) phaseAt (omega arith) ∙ one)
   where
-    passed : (phaseRefusal h 1 orElse openRefusal h s) ≡ 0
+    passed : (phaseRefusal h mark orElse openRefusal h s) ≡ 0
     passed = simp passes (one, (l, λ z. absurd (omega arith)))
 
-globals-event : {h : Heap} → Audited h → phase h ≡ 1 → globalsState h ≡ 2 →
-    (event ScanGlobals (run h ScanGlobals .answer) ≡ Event.scanGlobals) × (phase (run h ScanGlobals .heap) ≡ 1)
+globals-event : {h : Heap} → Audited h → phase h ≡ mark → globalsState h ≡ grayState →
+    (event ScanGlobals (run h ScanGlobals .answer) ≡ Event.scanGlobals) × (phase (run h ScanGlobals .heap) ≡ mark)
 unfolding scanGlobals
 globals-event {h} F one e = rw (entry-passes h F, passed, eq-eqb (globalsState h) 2 e) (refl, root-other F globalsStateAt 1 (omega arith) phaseAt (omega arith) ∙ one)
   where
-    passed : phaseRefusal h 1 ≡ 0
+    passed : phaseRefusal h mark ≡ 0
     passed = simp passes one
 
-mark-event : {h : Heap} → Audited h → phase h ≡ 1 → firstGray h < words h → (event MarkStep (run h MarkStep .answer) ≡ Event.markStep) × (phase (run h MarkStep .heap) ≡ 1)
+mark-event : {h : Heap} → Audited h → phase h ≡ mark → firstGray h < words h → (event MarkStep (run h MarkStep .answer) ≡ Event.markStep) × (phase (run h MarkStep .heap) ≡ mark)
 unfolding markStep
 mark-event {h} F one l = rw (entry-passes h F, passed, lt-ltb (firstGray h) (words h) l, ne-eqb (addressOf (firstGray h)) 0 (omega arith)) (refl, one)
   where
-    passed : phaseRefusal h 1 ≡ 0
+    passed : phaseRefusal h mark ≡ 0
     passed = simp passes one
 
 -- what is gray where finish is refused
-grays : (h : Heap) → phase h ≡ 1 → finishRefusal h ≢ 0 → ((s : ℕ) × (s < stackCount) × (state h s ≡ 2)) ⊎ ((globalsState h ≡ 2) ⊎ (firstGray h < words h))
+grays : (h : Heap) → phase h ≡ mark → finishRefusal h ≢ 0 → ((s : ℕ) × (s < stackCount) × (state h s ≡ grayState)) ⊎ ((globalsState h ≡ grayState) ⊎ (firstGray h < words h))
 unfolding finishRefusal _given_ _orElse_
 grays h one d = go (someBelow stackCount (λ s. eqb (state h s) 2)) refl (eqb (globalsState h) 2) refl (ltb (firstGray h) (words h)) refl (rw one at d)
   where
     go : (a : Bool) → someBelow stackCount (λ s. eqb (state h s) 2) ≡ a → (b : Bool) → eqb (globalsState h) 2 ≡ b → (c : Bool) → ltb (firstGray h) (words h) ≡ c →
-        _≢_ {A = ℕ} (cond (a || b || c) 10 0) 0 → ((s : ℕ) × (s < stackCount) × (state h s ≡ 2)) ⊎ ((globalsState h ≡ 2) ⊎ (firstGray h < words h))
+        _≢_ {A = ℕ} (cond (a || b || c) unfinished 0) 0 → ((s : ℕ) × (s < stackCount) × (state h s ≡ grayState)) ⊎ ((globalsState h ≡ grayState) ⊎ (firstGray h < words h))
     go true e b f c g n = let x = some-iff stackCount (λ s. eqb (state h s) 2) .0 (is-true _ e) in inl (x .0, x .1, eqb-true (state h (x .0)) 2 (of-true _ (x .2)))
     go false e true f c g n = inr (inl (eqb-true (globalsState h) 2 f))
     go false e false f true g n = inr (inr (ltb-true (firstGray h) (words h) g))
     go false e false f false g n = absurd (n refl)
 
 -- what the theory's measure needs to see
-see-stack : (h : Heap) (s : ℕ) → s < stackCount → state h s ≡ 2 → T (view h .bits .grayStack s)
+see-stack : (h : Heap) (s : ℕ) → s < stackCount → state h s ≡ grayState → T (view h .bits .grayStack s)
 unfolding view
 see-stack h s l e = rw (lt-ltb s stackCount l, e) tt
 
-see-globals : (h : Heap) → globalsState h ≡ 2 → T (view h .bits .grayGlobals)
+see-globals : (h : Heap) → globalsState h ≡ grayState → T (view h .bits .grayGlobals)
 unfolding view
 see-globals h e = rw e tt
 
-see-mark : (h : Heap) → phase h ≡ 1 → view h .phase ≡ Phase.mark
+see-mark : (h : Heap) → phase h ≡ mark → view h .phase ≡ Phase.mark
 unfolding view
 see-mark h e = rw e
 
-pub begin-event : (P : ℕ) (h : Heap) → Audited (onPages P h) → phase h ≡ 0 → eventOn h (startOf P) ≡ Event.start
+pub begin-event : (P : ℕ) (h : Heap) → Audited (onPages P h) → phase h ≡ off → eventOn h (startOf P) ≡ Event.start
 begin-event P h F e = begin F e
 
 -- one call of the mark phase that lowers what is left to mark
@@ -104,22 +105,21 @@ record Lowers (P : ℕ) (h : Heap) (L : Ledger) : Type 0 where
   collects : (rs : List Request) → Collects P rs → Collects P (request ∷ rs)
   ledger : Ledger
   counts : ℕ → ℕ
-  marks : phase (step h request .heap) ≡ 1
+  marks : phase (step h request .heap) ≡ mark
   audited : Audited (onPages P (step h request .heap))
   reached : Reached (view (onPages P (step h request .heap))) ledger counts
   falls : toMark stackCount ledger (view (onPages P (step h request .heap))) < toMark stackCount L (view (onPages P h))
 
-lowers : (P : ℕ) (h : Heap) {L : Ledger} {n : ℕ → ℕ} → Audited (onPages P h) → Reached (view (onPages P h)) L n → phase h ≡ 1 →
+lowers : (P : ℕ) (h : Heap) {L : Ledger} {n : ℕ → ℕ} → Audited (onPages P h) → Reached (view (onPages P h)) L n → phase h ≡ mark →
     finishRefusal (onPages P h) ≢ 0 → Lowers P h L
 unfolding sweepsIn
 lowers P h {L} {n} F N one d = some (grays (onPages P h) one d)
   where
-    by : (r : Request) (e : Event) → sweepsOf h r ≡ [] → eventOn h r ≡ e → phase (step h r .heap) ≡ 1 → Advances stackCount (view (onPages P h)) e →
+    by : (r : Request) (e : Event) → sweepsOf h r ≡ [] → eventOn h r ≡ e → phase (step h r .heap) ≡ mark → Advances stackCount (view (onPages P h)) e →
         ((rs : List Request) → Collects P rs → Collects P (r ∷ rs)) → Lowers P h L
     by r e z p two a c =
-        let m = at-once (made P h F (N .agrees) r) z in
-        let s : Step (view (onPages P h)) e (view (onPages P (step h r .heap))) =
-        subst (λ (x : Event). Step (view (onPages P h)) x (view (onPages P (step h r .heap)))) p (m .step) in
+        let m = made P h F (N .agrees) r in
+        let s : StepOn P h e (step h r .heap) = step-as P h (step h r .heap) p (at-once m z) in
         record {
           request = r;
           collects = c;
@@ -131,14 +131,14 @@ lowers P h {L} {n} F N one d = some (grays (onPages P h) one d)
           falls = advancing (N .agrees) .marks stackCount (see-mark (onPages P h) one) s a;
         }
 
-    some : (((s : ℕ) × (s < stackCount) × (state h s ≡ 2)) ⊎ ((globalsState h ≡ 2) ⊎ (firstGray (onPages P h) < words (onPages P h)))) → Lowers P h L
+    some : (((s : ℕ) × (s < stackCount) × (state h s ≡ grayState)) ⊎ ((globalsState h ≡ grayState) ⊎ (firstGray (onPages P h) < words (onPages P h)))) → Lowers P h L
     some (inl x) = let y = scan-event F one (x .0) (x .1) (x .2) in
         by (record { pages = P; call = ScanStack (x .0) }) (Event.scanStack (x .0)) refl (y .0) (y .1)
         (Advance.scan (x .0) (x .1) (see-stack (onPages P h) (x .0) (x .1) (x .2))) (λ rs c. Collects.scan (x .0) c)
     some (inr (inl x)) = let y = globals-event F one x in
         by (record { pages = P; call = ScanGlobals }) Event.scanGlobals refl (y .0) (y .1) (Advance.globals (see-globals (onPages P h) x)) (λ rs c. Collects.globals c)
     some (inr (inr x)) = let y = mark-event F one x in
-        by (record { pages = P; call = MarkStep }) Event.markStep refl (y .0) (y .1) Advance.step (λ rs c. Collects.mark c)
+        by (record { pages = P; call = MarkStep }) Event.markStep refl (y .0) (y .1) Advance.step (λ rs c. Collects.step c)
 
 -- THE MARK PHASE: k is at least what is left to mark
 pub record Finishing (P k : ℕ) (h : Heap) : Type 0 where
@@ -147,7 +147,7 @@ pub record Finishing (P k : ℕ) (h : Heap) : Type 0 where
   pub short : length calls ≤ k
   pub finish : eventOn (after h calls) (finishOf P) ≡ Event.finish
 
-pub finishing : (P k : ℕ) (h : Heap) {L : Ledger} {n : ℕ → ℕ} → Audited (onPages P h) → Reached (view (onPages P h)) L n → phase h ≡ 1 →
+pub finishing : (P k : ℕ) (h : Heap) {L : Ledger} {n : ℕ → ℕ} → Audited (onPages P h) → Reached (view (onPages P h)) L n → phase h ≡ mark →
     toMark stackCount L (view (onPages P h)) ≤ k → Finishing P k h
 unfolding after
 finishing P zero h {L} F N one l = now (eqb (finishRefusal (onPages P h)) 0) refl
@@ -201,8 +201,8 @@ abbrev unsweptSpans : Heap → ℕ
 unsweptSpans h = countBelow (h .pages) (λ s. startsSpan (h .table) s && isUnswept (h .table) s)
 
 -- a sweep step that finds an unswept span, and one that finds none
-sweep-event : {h : Heap} → Audited h → phase h ≡ 2 → firstUnswept (h .pages) (h .table) < h .pages →
-    (event SweepStep (run h SweepStep .answer) ≡ Event.sweepStep) × (phase (run h SweepStep .heap) ≡ 2) ×
+sweep-event : {h : Heap} → Audited h → phase h ≡ sweep → firstUnswept (h .pages) (h .table) < h .pages →
+    (event SweepStep (run h SweepStep .answer) ≡ Event.sweepStep) × (phase (run h SweepStep .heap) ≡ sweep) ×
     (run h SweepStep .heap .table ≡ sweptTable h (firstUnswept (h .pages) (h .table)))
 unfolding sweepStep
 sweep-event {h} F two l = rw (
@@ -212,14 +212,14 @@ sweep-event {h} F two l = rw (
   ne-eqb (firstUnswept (h .pages) (h .table) + 1) 0 (omega arith),
 ) (refl, two, refl)
   where
-    passed : phaseRefusal h 2 ≡ 0
+    passed : phaseRefusal h sweep ≡ 0
     passed = simp passes two
 
-end-event : {h : Heap} → Audited h → phase h ≡ 2 → h .pages ≤ firstUnswept (h .pages) (h .table) → event SweepStep (run h SweepStep .answer) ≡ Event.endCycle
+end-event : {h : Heap} → Audited h → phase h ≡ sweep → h .pages ≤ firstUnswept (h .pages) (h .table) → event SweepStep (run h SweepStep .answer) ≡ Event.endCycle
 unfolding sweepStep
 end-event {h} F two l = rw (entry-passes h F, passed, le-ltb (firstUnswept (h .pages) (h .table)) (h .pages) l)
   where
-    passed : phaseRefusal h 2 ≡ 0
+    passed : phaseRefusal h sweep ≡ 0
     passed = simp passes two
 
 -- one unswept span less
@@ -243,28 +243,28 @@ pub record Ending (P k : ℕ) (h : Heap) : Type 0 where
 record Sweeps (P : ℕ) (h : Heap) : Type 0 where
   ledger : Ledger
   counts : ℕ → ℕ
-  sweeps : phase (step h (sweepOf P) .heap) ≡ 2
+  sweeps : phase (step h (sweepOf P) .heap) ≡ sweep
   audited : Audited (onPages P (step h (sweepOf P) .heap))
   reached : Reached (view (onPages P (step h (sweepOf P) .heap))) ledger counts
   falls : unsweptSpans (onPages P (step h (sweepOf P) .heap)) < unsweptSpans (onPages P h)
 
-sweeps-one : (P : ℕ) (h : Heap) {L : Ledger} {n : ℕ → ℕ} → Audited (onPages P h) → Reached (view (onPages P h)) L n → phase h ≡ 2 →
+sweeps-one : (P : ℕ) (h : Heap) {L : Ledger} {n : ℕ → ℕ} → Audited (onPages P h) → Reached (view (onPages P h)) L n → phase h ≡ sweep →
     firstUnswept P (h .table) < P → Sweeps P h
 unfolding sweepsIn
 sweeps-one P h {L} F N two l =
     let e = sweep-event F two l in
-    let m = at-once (made P h F (N .agrees) (sweepOf P)) refl in
+    let m = made P h F (N .agrees) (sweepOf P) in
     let u = first-unswept P (h .table) l in
     record {
       ledger = feed (eventOn h (sweepOf P)) L;
       counts = _;
       sweeps = e .1;
       audited = m .audited;
-      reached = reached-step (m .step) N;
+      reached = reached-step (at-once m refl) N;
       falls = rw (e .2) (fewer F (firstUnswept P (h .table)) l (u .0) (u .1));
     }
 
-pub ending : (P k : ℕ) (h : Heap) {L : Ledger} {n : ℕ → ℕ} → Audited (onPages P h) → Reached (view (onPages P h)) L n → phase h ≡ 2 →
+pub ending : (P k : ℕ) (h : Heap) {L : Ledger} {n : ℕ → ℕ} → Audited (onPages P h) → Reached (view (onPages P h)) L n → phase h ≡ sweep →
     unsweptSpans (onPages P h) ≤ k → Ending P k h
 unfolding after
 ending P zero h F N two l = now (ltb (firstUnswept P (h .table)) P) refl

@@ -1,5 +1,5 @@
--- What a call comes to (`Happens`): a step of the theory, a heap that passes the audit, what it answered, and a refusal that is not 12. Every outcome
--- is split by its refusal; what the view shows of slots, stacks and words is here too.
+-- What a call comes to (`Happens`): a step of the theory, and what it answered. Every outcome is split by its refusal; what the view shows of slots,
+-- stacks and words is here too. That a call keeps the audit is the law of the crate keeps.
 use Prim.Native.Nat.{ℕ, zero, _+_, _-_, _*_, _/_, _<_, _≤_}
 use mathlib.Core.Bool.{Bool, true, false, not, cond, and-false}
 use mathlib.Core.Logic.{_≢_}
@@ -11,66 +11,42 @@ use Rattle.marking.specs.WordHeap.{Phase, off, mark, sweep, LegalColours}
 use Rattle.marking.specs.WordHeap
 use Rattle.marking.specs.Trace.{Step}
 use Rattle.marking.specs.Trace
-use Rattle.model.specs.Memory.{Heap, choose, setRoot, slot, global, state, phase, word, words, wordOf, slotAt, stackCount, slotCount, globalCount, pageWords}
+use Rattle.model.specs.Memory.{Heap, choose, setRoot, slot, global, state, phase, word, words, wordOf, slotAt, stackCount, slotCount, globalCount, pageWords, closed}
 use Rattle.model.specs.Spans.{spanOf, elementWords, pointerCount}
 use Rattle.model.specs.Answers.{outcome}
-use Rattle.model.specs.Calls.{audited, Call, Setup, Audit, Start, ScanGlobals, MarkStep, Finish, SweepStep, Open, Close, ScanStack, Clear, Copy, Get, LoadGlobal, StoreGlobal, Allocate, Load, Store, Put}
+use Rattle.model.specs.Calls.{Call}
 use Rattle.model.specs.declared.Answer.{Answer}
 use Rattle.model.specs.declared.Answer.the-variants.{Refused, Value}
 use Rattle.model.proofs.Tests.{of-true}
 use Rattle.model.specs.Facts.{Audited}
 use Rattle.model.proofs.Facts.{not-unswept}
-use Rattle.history.specs.Ledger.{refusal, accepted, event}
+use Rattle.history.specs.Ledger.{event}
+use Rattle.marking.specs.Claim.{Subject, subject, given}
 use Rattle.history.proofs.View.{view, phaseOf, lateAt, wordsAt, runFrom, marking-is}
 
--- what an accepted call that sets a slot, or gets a word, has answered, of the heap that it leaves
-abbrev pub Gives : Call → Answer → Heap → Type 0
-Gives Setup a h = Unit {0}
-Gives Audit a h = Unit {0}
-Gives (Open s) a h = Unit {0}
-Gives (Close s) a h = Unit {0}
-Gives (Allocate s i size p) a h = a ≡ Value (view h .slots s i)
-Gives (Copy s i j) a h = a ≡ Value (view h .slots s i)
-Gives (Clear s i) a h = a ≡ Value (view h .slots s i)
-Gives (Load s i j f) a h = a ≡ Value (view h .slots s i)
-Gives (Store s j f k) a h = Unit {0}
-Gives (Put s j f v) a h = Unit {0}
-Gives (Get s j f) a h = a ≡ Value (view h .arena (wordOf (view h .slots s j) + f))
-Gives (LoadGlobal s i g) a h = a ≡ Value (view h .slots s i)
-Gives (StoreGlobal s g i) a h = Unit {0}
-Gives Start a h = Unit {0}
-Gives (ScanStack s) a h = Unit {0}
-Gives ScanGlobals a h = Unit {0}
-Gives MarkStep a h = Unit {0}
-Gives Finish a h = Unit {0}
-Gives SweepStep a h = Unit {0}
+-- what a call has answered, where its answer is about a slot or a word: what the heap that it leaves has there
+abbrev pub Said : Subject → Answer → Heap → Type 0
+Said Subject.nothing a h = Unit {0}
+Said (Subject.slot s i) a h = a ≡ Value (given (Subject.slot s i) (view h))
+Said (Subject.number s j f) a h = a ≡ Value (given (Subject.number s j f) (view h))
 
--- what an accepted call on h comes to
-pub record Accepts (h : Heap) (c : Call) (a : Answer) (h′ : Heap) : Type 0 where
-  pub step : Step (view h) (event c a) (view h′)
-  pub audited : Audited h′
-  pub said : Gives c a h′
-  pub zero : refusal a ≡ 0
-
--- .. and any call
+-- what a call on h comes to
 pub record Happens (h : Heap) (c : Call) (a : Answer) (h′ : Heap) : Type 0 where
   pub step : Step (view h) (event c a) (view h′)
-  pub audited : Audited h′
-  pub said : T (accepted a) → Gives c a h′
-  pub sound : refusal a ≢ 12
+  pub said : Said (subject (event c a)) a h′
 
 -- a refused call leaves all as it is
-pub is-refused : {h : Heap} → Audited h → (c : Call) (n : ℕ) → n ≢ 0 → n ≢ 12 → Happens h c (Refused n) h
-is-refused {h} F c n d m = record { step = rw (ne-eqb n 0 d) Trace.Step.refused; audited = F; said = λ t. absurd (d (eqb-true n 0 (of-true _ t))); sound = m }
+pub is-refused : (h : Heap) (c : Call) (n : ℕ) → n ≢ 0 → Happens h c (Refused n) h
+is-refused h c n d = record { step = rw (ne-eqb n 0 d) Trace.Step.refused; said = rw (ne-eqb n 0 d) tt }
 
--- an outcome by its refusal, which is none of 11 and 12
-pub by-refusal : {h : Heap} → Audited h → (c : Call) (n : ℕ) → n ≤ 10 → (a : Answer) (done : Heap) → done .pages ≡ h .pages → (n ≡ 0 → Accepts h c a done) →
+-- an outcome by its refusal
+pub by-refusal : (h : Heap) (c : Call) (n : ℕ) (a : Answer) (done : Heap) → done .pages ≡ h .pages → (n ≡ 0 → Happens h c a done) →
     let o = outcome n h a done in Happens h c (o .answer) (o .heap)
-by-refusal {h} F c n l a done e f = go (eqb n 0) refl
+by-refusal h c n a done e f = go (eqb n 0) refl
   where
     go : (b : Bool) → eqb n 0 ≡ b → Happens h c (cond b a (Refused n)) (choose b done h)
-    go true p = let x = f (eqb-true n 0 p) in record { step = x .step; audited = x .audited; said = λ t. x .said; sound = rw (x .zero) (omega arith) }
-    go false p = rw e (is-refused F c n (eqb-false n 0 p) (omega arith))
+    go true p = f (eqb-true n 0 p)
+    go false p = rw e (is-refused h c n (eqb-false n 0 p))
 
 -- a slot that was set holds the value
 pub slot-now : {h : Heap} → Audited h → (s i v : ℕ) → s < stackCount → i < slotCount → Value v ≡ Value (view (setRoot (slotAt s i) v h) .slots s i)
@@ -114,7 +90,7 @@ pub see-slot : (h : Heap) (s i : ℕ) → s < stackCount → i < slotCount → v
 unfolding view
 see-slot h s i a b = rw (lt-ltb s stackCount a, lt-ltb i slotCount b)
 
-pub see-open : (h : Heap) (s : ℕ) → s < stackCount → state h s ≢ 0 → T (view h .opened s)
+pub see-open : (h : Heap) (s : ℕ) → s < stackCount → state h s ≢ closed → T (view h .opened s)
 unfolding view
 see-open h s a d = rw (lt-ltb s stackCount a, ne-eqb (state h s) 0 d) tt
 
@@ -137,6 +113,3 @@ see-words h w = refl
 pub see-word : (h : Heap) (w : ℕ) → view h .arena w ≡ word h w
 unfolding view
 see-word h w = refl
-
-pub see-at : (a : ℕ) → wordOf a ≡ wordOf a
-see-at a = refl

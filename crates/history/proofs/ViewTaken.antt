@@ -15,7 +15,7 @@ use Rattle.marking.specs.WordHeap.{Elements, Alike, heapAllocate, heapSweep, Le
 use Rattle.marking.specs.Ledger.{Event}
 use Rattle.marking.specs.Trace.{Step}
 use Rattle.marking.specs.Trace
-use Rattle.model.specs.Memory.{Heap, withTable, addressOf, phase, stackCount, slotCount, firstGlobal, firstState, globalsStateAt, phaseAt, pageWords, unsweptFlag}
+use Rattle.model.specs.Memory.{Heap, withTable, addressOf, phase, stackCount, slotCount, firstGlobal, firstState, globalsStateAt, phaseAt, pageWords, unsweptFlag, sweep}
 use Rattle.model.specs.Bitmaps.{allocated, marked, gray, pointer, is}
 use Rattle.model.specs.Spans.{owner, pageCount, kindEntry, isFree, elementWords, elementStart, spanOf, elementOf}
 use Rattle.model.specs.Cycle.{sweptTable}
@@ -189,6 +189,6 @@ module _ {h : Heap} (F : Audited h) (s : ℕ) (span : IsSpan (h .table) s) (unsw
         like-words L,
       )
 
-  pub swept-step : LegalColours (view h) → phase h ≡ 2 → Step (view h) Event.sweepStep (view (swept s h))
+  pub swept-step : LegalColours (view h) → phase h ≡ sweep → Step (view h) Event.sweepStep (view (swept s h))
   unfolding view
   swept-step A two = rw is-sweep (Trace.Step.sweepStep q (elementsOf (sweptTable h s) (is pointer then)) A (rw two) was-late′ stay-alike)

@@ -12,39 +12,55 @@ use Rattle.marking.specs.Ledger.{Ledger, Event, Each, feedAll, lastBorn}
 use Rattle.marking.specs.Claim.{workIn}
 use Rattle.marking.specs.Survivors.{Saved}
 use Rattle.model.specs.Bounded.{countBelow}
-use Rattle.model.specs.Memory.{Heap, words, phase, wordOf, stackCount}
+use Rattle.model.specs.Memory.{Heap, words, phase, wordOf, stackCount, off, mark, sweep}
 use Rattle.model.specs.Bitmaps.{is, allocated, marked}
-use Rattle.model.specs.Calls.{Start, ScanGlobals, MarkStep, Finish, SweepStep, ScanStack, Request, step, after}
-use Rattle.history.specs.Ledger.{refusal, onPages}
-use Rattle.history.specs.Demand.{eventOn, stages, events, ledger, Place, answerAt, freesIn}
+use Rattle.model.specs.Calls.{Start, ScanGlobals, MarkStep, Finish, SweepStep, ScanStack, Request, after}
+use Rattle.model.specs.Answers.{refusal, damaged}
+use Rattle.history.specs.Ledger.{onPages}
+use Rattle.history.specs.Demand.{Stage, stages, eventsOf, endOf, fed, eventOn, Place, answerAt, freesIn, Cycle}
 
--- the mark phase of a cycle within the list, from its start to its finish
-pub record Marking (h : Heap) (rs : List Request) : Type 0 where
-  pub before : List Request
-  pub first : Request
-  pub between : List Request
-  pub finish : Request
-  pub later : List Request
-  pub list : rs ≡ before ++ (first ∷ (between ++ (finish ∷ later)))
-  pub starts : eventOn (after h before) first ≡ Event.start
-  pub lasts : Each inMarking (events (step (after h before) first .heap) between)
-  pub finishes : eventOn (after (step (after h before) first .heap) between) finish ≡ Event.finish
+-- the mark phase of a cycle within the stages ss, from its start to its finish
+pub record Marking (ss : List Stage) : Type 0 where
+  pub before : List Stage
+  pub first : Stage
+  pub between : List Stage
+  pub finish : Stage
+  pub later : List Stage
+  pub list : ss ≡ before ++ (first ∷ (between ++ (finish ∷ later)))
+  pub starts : first .event ≡ Event.start
+  pub lasts : Each inMarking (eventsOf between)
+  pub finishes : finish .event ≡ Event.finish
 
--- a whole cycle within the list: start, mark phase, finish, sweep phase, and the sweep step that ends it
-pub record Whole (h : Heap) (rs : List Request) : Type 0 where
-  pub before : List Request
-  pub first : Request
-  pub marking : List Request
-  pub finish : Request
-  pub sweeping : List Request
-  pub last : Request
-  pub later : List Request
-  pub list : rs ≡ before ++ (first ∷ (marking ++ (finish ∷ (sweeping ++ (last ∷ later)))))
-  pub starts : eventOn (after h before) first ≡ Event.start
-  pub marks : Each inMarking (events (step (after h before) first .heap) marking)
-  pub finishes : eventOn (after (step (after h before) first .heap) marking) finish ≡ Event.finish
-  pub sweeps : Each inCycle (events (step (after (step (after h before) first .heap) marking) finish .heap) sweeping)
-  pub ends : eventOn (after (step (after (step (after h before) first .heap) marking) finish .heap) sweeping) last ≡ Event.endCycle
+-- a whole cycle: its mark phase, and after the finish its sweep phase with the sweep step that ends it
+pub record Whole (ss : List Stage) : Type 0 where
+  pub marking : Marking ss
+  pub sweeping : List Stage
+  pub last : Stage
+  pub rest : List Stage
+  pub later : marking .later ≡ sweeping ++ (last ∷ rest)
+  pub sweeps : Each inCycle (eventsOf sweeping)
+  pub ends : last .event ≡ Event.endCycle
+
+-- a cycle of demand 3 as a whole cycle: from the same start to the same end
+pub record Parts {ss : List Stage} (C : Cycle ss) : Type 0 where
+  pub whole : Whole ss
+  pub before : whole .marking .before ≡ C .before
+  pub first : whole .marking .first ≡ C .first
+  pub between : C .between ≡ whole .marking .between ++ (whole .marking .finish ∷ whole .sweeping)
+  pub last : whole .last ≡ C .last
+
+-- a mark phase: the events from its start to its finish, the ledger at its start and at its finish, and the heap of P pages that the finish finds
+abbrev pub markingEvents : {ss : List Stage} → Marking ss → List Event
+markingEvents M = eventsOf (M .between)
+
+abbrev pub ledgerAtStart : {ss : List Stage} → Marking ss → Ledger
+ledgerAtStart M = fed (M .before)
+
+abbrev pub ledgerAtFinish : {ss : List Stage} → Marking ss → Ledger
+ledgerAtFinish M = feedAll (markingEvents M) (ledgerAtStart M)
+
+abbrev pub heapAtFinish : ℕ → {ss : List Stage} → Marking ss → Heap
+heapAtFinish P M = onPages P (endOf (M .first .heap) (M .between))
 
 -- the record x is allocated: the allocated bit at its address is on, and it is the last born there; it is marked besides
 abbrev pub isAllocated : Ledger → Heap → ℕ → Bool
@@ -62,7 +78,7 @@ pub data Collects (P : ℕ) : List Request → Type 0 where
   none : Collects P []
   scan : (s : ℕ) {rs : List Request} → Collects P rs → Collects P (record { pages = P; call = ScanStack s } ∷ rs)
   globals : {rs : List Request} → Collects P rs → Collects P (record { pages = P; call = ScanGlobals } ∷ rs)
-  mark : {rs : List Request} → Collects P rs → Collects P (record { pages = P; call = MarkStep } ∷ rs)
+  step : {rs : List Request} → Collects P rs → Collects P (record { pages = P; call = MarkStep } ∷ rs)
 
 -- the requests that begin a cycle, end its mark phase, and sweep, on buffers of P pages
 abbrev pub startOf : ℕ → Request
@@ -77,32 +93,23 @@ sweepOf P = record { pages = P; call = SweepStep }
 -- THE CLAIM about the list rs, made on buffers of P pages that an accepted setup left as h
 pub record Beyond (P : ℕ) (h : Heap) (rs : List Request) : Type 0 where
   -- no call of the list is refused 12: every call keeps the audit
-  pub sound : (p : Place rs) → refusal (answerAt h p) ≢ 12
+  pub sound : (p : Place rs) → refusal (answerAt h p) ≢ damaged
+  -- each cycle of demand 3 has a mark phase and is whole, so that what follows is said of every one of them
+  pub parts : (C : Cycle (stages h rs)) → Parts C
   -- "No cycle has more mark steps that do work than there are records allocated at its finish."
-  pub work : (M : Marking h rs) → let h₁ = step (after h (M .before)) (M .first) .heap in
-      workIn (events h₁ (M .between)) ≤ allocatedIn (onPages P (after h₁ (M .between)))
+  pub work : (M : Marking (stages h rs)) → workIn (markingEvents M) ≤ allocatedIn (heapAtFinish P M)
   -- What a cycle frees, exactly. `Saved` says it in ledger terms alone, from the start on: a scan saves all that the scanned slots or globals reach,
   -- a store all that the old and the new value reach, a birth the record born. The records marked at the finish are those saved by then; of the
   -- records allocated then, the sweeps free each that was not saved once, and no other.
-  pub marked : (M : Marking h rs) (x : ℕ) →
-      let h₁ = step (after h (M .before)) (M .first) .heap in
-      let es = events h₁ (M .between) in
-      let L = feedAll es (ledger h (M .before)) in
-      0 < x → x ≤ L .count → (T (isMarked L (onPages P (after h₁ (M .between))) x) → Saved es (ledger h (M .before)) x) ×
-      (Saved es (ledger h (M .before)) x → T (isMarked L (onPages P (after h₁ (M .between))) x))
-  pub exact : (W : Whole h rs) (x : ℕ) →
-      let h₁ = step (after h (W .before)) (W .first) .heap in
-      let h₂ = after h₁ (W .marking) in
-      let es = events h₁ (W .marking) in
-      let L = feedAll es (ledger h (W .before)) in
-      let h₃ = step h₂ (W .finish) .heap in
-      0 < x → x ≤ L .count → T (isAllocated L (onPages P h₂) x) →
-      (¬ (Saved es (ledger h (W .before)) x) → freesIn P x L h₃ (stages h₃ (W .sweeping ++ (W .last ∷ []))) ≡ 1) ×
-      (Saved es (ledger h (W .before)) x → freesIn P x L h₃ (stages h₃ (W .sweeping ++ (W .last ∷ []))) ≡ 0)
-  -- Every cycle can be brought to its end. After the list a start is accepted, or some scans and mark steps, at most 17 (the stacks and the globals)
-  -- plus the allocated records, make finish accepted, or some sweep steps, no more than there are pages, leave nothing to sweep.
-  pub phases : phase (after h rs) ≤ 2
-  pub begins : phase (after h rs) ≡ 0 → eventOn (after h rs) (startOf P) ≡ Event.start
-  pub finishes : phase (after h rs) ≡ 1 →
-      (cs : List Request) × Collects P cs × (length cs ≤ stackCount + 1 + allocatedIn (onPages P (after h rs))) × (eventOn (after (after h rs) cs) (finishOf P) ≡ Event.finish)
-  pub ends : phase (after h rs) ≡ 2 → (k : ℕ) × (k ≤ P) × (eventOn (after (after h rs) (replicate k (sweepOf P))) (sweepOf P) ≡ Event.endCycle)
+  pub marked : (M : Marking (stages h rs)) (x : ℕ) → let L = ledgerAtFinish M in let saved = Saved (markingEvents M) (ledgerAtStart M) x in
+      0 < x → x ≤ L .count → (T (isMarked L (heapAtFinish P M) x) → saved) × (saved → T (isMarked L (heapAtFinish P M) x))
+  pub exact : (W : Whole (stages h rs)) (x : ℕ) → let M = W .marking in let L = ledgerAtFinish M in let saved = Saved (markingEvents M) (ledgerAtStart M) x in
+      let times = freesIn P x L (M .finish .heap) (W .sweeping ++ (W .last ∷ [])) in
+      0 < x → x ≤ L .count → T (isAllocated L (heapAtFinish P M) x) → (¬ saved → times ≡ 1) × (saved → times ≡ 0)
+  -- Every cycle can be brought to its end. After the list a start is accepted, or some scans and mark steps, at most one for each stack, one for the
+  -- globals and one for each allocated record, make finish accepted, or some sweep steps, no more than there are pages, leave nothing to sweep.
+  pub phases : phase (after h rs) ≤ sweep
+  pub begins : phase (after h rs) ≡ off → eventOn (after h rs) (startOf P) ≡ Event.start
+  pub finishes : phase (after h rs) ≡ mark → (cs : List Request) × Collects P cs × (length cs ≤ stackCount + 1 + allocatedIn (onPages P (after h rs))) ×
+      (eventOn (after (after h rs) cs) (finishOf P) ≡ Event.finish)
+  pub ends : phase (after h rs) ≡ sweep → (k : ℕ) × (k ≤ P) × (eventOn (after (after h rs) (replicate k (sweepOf P))) (sweepOf P) ≡ Event.endCycle)

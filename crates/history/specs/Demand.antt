@@ -3,8 +3,9 @@
 -- contracts cite (crate model, specs/Calls.antt); the ledger is in Ledger.antt here and in the crate marking (specs/Ledger.antt there). The record
 -- `Demand` is the claim; proofs/Theorem.antt proves it.
 --
--- Answers, the ledger and cycles go from call to call. What is freed goes from stage to stage: a call's stages are the sweeps inside it and then the
--- call itself, so that a record counts as freed also where the same call gives its element out again.
+-- Answers go from call to call. The ledger, what is freed, and cycles go from stage to stage: the stages of a call are the sweeps inside it, whether it
+-- is accepted or refused then, and the call itself, so that a record counts as freed also where the same call gives its element out again. Each call
+-- has one stage as yet, since none sweeps inside.
 use Prim.Native.Nat.{ℕ, _+_, _≤_, _<_}
 use mathlib.Core.Bool.{not, cond}
 use mathlib.Core.List.{List, [], _∷_, _++_, map}
@@ -13,14 +14,15 @@ use mathlib.Core.Path.{_≡_}
 use lib.ListN.{length}
 use lib.Dec.{T, eqb}
 use Rattle.marking.specs.Effect.{lasting, inCycle, isSweep, turnedOff}
+use Rattle.marking.specs.Claim.{Subject, subject}
 use Rattle.marking.specs.Ledger.{Ledger, Event, effect, Each, empty, feed, feedAll, value, word as ledgerWord, Reachable, lastBorn}
 use Rattle.model.specs.Memory.{Heap, word, slot, global, state, wordOf, addressOf, stackCount, slotCount, globalCount}
 use Rattle.model.specs.Bitmaps.{is, allocated}
 use Rattle.model.specs.Spans.{owner, pageCount, kindEntry}
-use Rattle.model.specs.Calls.{Call, Setup, Audit, Start, ScanGlobals, MarkStep, Finish, SweepStep, Open, Close, ScanStack, Clear, Copy, Get, LoadGlobal, StoreGlobal, Allocate, Load, Store, Put, Request, step, sweepsOf, after}
+use Rattle.model.specs.Calls.{Setup, Request, step, sweepsOf, after}
 use Rattle.model.specs.declared.Answer.{Answer}
 use Rattle.model.specs.declared.Answer.the-variants.{Value}
-use Rattle.history.specs.Ledger.{accepted, event, onPages}
+use Rattle.history.specs.Ledger.{event, onPages}
 
 -- a setup of P pages
 abbrev pub setupOf : ℕ → Request
@@ -35,11 +37,11 @@ pub record Stage : Type 0 where
   pub event : Event
   pub heap : Heap
 
--- a sweep inside a call is the event of a sweep step; the ledger is left alone
+-- a sweep inside a call is the event of a sweep step, which leaves the ledger alone
 abbrev pub sweepStage : Heap → Stage
 sweepStage h = record { event = Event.sweepStep; heap = h }
 
--- the stages of a call on buffers h: the sweeps inside it, whether it is accepted or refused then, and the call itself
+-- the stages of a call on buffers h: the sweeps inside it, and the call itself
 abbrev pub stagesOf : Heap → Request → List Stage
 stagesOf h r = map sweepStage (sweepsOf h r) ++ (record { event = eventOn h r; heap = step h r .heap } ∷ [])
 
@@ -56,13 +58,12 @@ unfoldable pub endOf : Heap → List Stage → Heap
 endOf h [] = h
 endOf h (s ∷ ss) = endOf (s .heap) ss
 
--- what the ledger is fed by a list of calls
-abbrev pub events : Heap → List Request → List Event
-events h rs = eventsOf (stages h rs)
+-- the ledger after stages, and after a list of calls; before them stands an accepted setup, which "empties it"
+abbrev pub fed : List Stage → Ledger
+fed ss = feedAll (eventsOf ss) empty
 
--- the ledger after a list of calls; before the list stands an accepted setup, which "empties it"
 abbrev pub ledger : Heap → List Request → Ledger
-ledger h rs = feedAll (events h rs) empty
+ledger h rs = fed (stages h rs)
 
 -- a place in a list, of calls or of stages: one of them, with those before and after it
 pub record Place {A : Type 0} (l : List A) : Type 0 where
@@ -71,23 +72,17 @@ pub record Place {A : Type 0} (l : List A) : Type 0 where
   pub later : List A
   pub list : l ≡ before ++ (here ∷ later)
 
--- at a call: the answer and the event, and the ledger before and after
+-- at a call: its answer and its event, and the ledger after it
 abbrev pub answerAt : Heap → {rs : List Request} → Place rs → Answer
 answerAt h p = step (after h (p .before)) (p .here) .answer
 
 abbrev pub eventAt : Heap → {rs : List Request} → Place rs → Event
 eventAt h p = eventOn (after h (p .before)) (p .here)
 
-abbrev pub ledgerBefore : Heap → {rs : List Request} → Place rs → Ledger
-ledgerBefore h p = ledger h (p .before)
-
 abbrev pub ledgerAfter : Heap → {rs : List Request} → Place rs → Ledger
-ledgerAfter h p = feed (eventAt h p) (ledgerBefore h p)
+ledgerAfter h p = ledger h (p .before ++ (p .here ∷ []))
 
--- at a stage: the ledger before, and the heap of P pages before and after
-abbrev pub ledgerAt : {ss : List Stage} → Place ss → Ledger
-ledgerAt p = feedAll (eventsOf (p .before)) empty
-
+-- at a stage: the heap of P pages before and after it
 abbrev pub heapBefore : ℕ → Heap → {ss : List Stage} → Place ss → Heap
 heapBefore P h p = onPages P (endOf h (p .before))
 
@@ -124,27 +119,12 @@ pub record Pages (P : ℕ) (t : List ℕ) : Type 0 where
   pub zero : (g : ℕ) → owner t g ≡ 0 → FreePage t g
   pub inside : (s g : ℕ) → InSpan t s g → g < P
 
--- "Each accepted call that sets a slot answered the ledger's new value of it, and get that of its word.": L is the ledger after the call
-abbrev pub Answered : Call → Answer → Ledger → Type 0
-Answered Setup a L = Unit {0}
-Answered Audit a L = Unit {0}
-Answered (Open s) a L = Unit {0}
-Answered (Close s) a L = Unit {0}
-Answered (Allocate s i size p) a L = a ≡ Value (value L (L .slot s i))
-Answered (Copy s i j) a L = a ≡ Value (value L (L .slot s i))
-Answered (Clear s i) a L = a ≡ Value (value L (L .slot s i))
-Answered (Load s i j f) a L = a ≡ Value (value L (L .slot s i))
-Answered (Store s j f k) a L = Unit {0}
-Answered (Put s j f v) a L = Unit {0}
-Answered (Get s j f) a L = a ≡ Value (ledgerWord L (L .slot s j) f)
-Answered (LoadGlobal s i g) a L = a ≡ Value (value L (L .slot s i))
-Answered (StoreGlobal s g i) a L = Unit {0}
-Answered Start a L = Unit {0}
-Answered (ScanStack s) a L = Unit {0}
-Answered ScanGlobals a L = Unit {0}
-Answered MarkStep a L = Unit {0}
-Answered Finish a L = Unit {0}
-Answered SweepStep a L = Unit {0}
+-- "Each accepted call that sets a slot answered the ledger's new value of it, and get that of its word.": by what the answer is about, which is
+-- nothing for a refused call and for every other; L is the ledger after the call
+abbrev pub Answered : Subject → Answer → Ledger → Type 0
+Answered Subject.nothing a L = Unit {0}
+Answered (Subject.slot s i) a L = a ≡ Value (value L (L .slot s i))
+Answered (Subject.number s j f) a L = a ≡ Value (ledgerWord L (L .slot s j) f)
 
 -- "A sweep step that turns off the allocated bit at an address frees the record last born there.": how often, once or not at all, the stage with
 -- event e frees the record x, from heap h to heap h′ and with L the ledger before it
@@ -166,18 +146,18 @@ freedSince P x n L h (s ∷ ss) =
 abbrev pub freed : ℕ → ℕ → Heap → List Stage → ℕ
 freed P x h ss = freedSince P x 0 empty h ss
 
--- "A cycle runs from an accepted start to the next accepted sweep step that answers 0, 0, 0; a setup accepted before that breaks it off.":
--- a cycle that ends within the list rs, made on buffers h
-pub record Cycle (h : Heap) (rs : List Request) : Type 0 where
-  pub before : List Request
-  pub first : Request
-  pub between : List Request
-  pub last : Request
-  pub later : List Request
-  pub list : rs ≡ before ++ (first ∷ (between ++ (last ∷ later)))
-  pub starts : eventOn (after h before) first ≡ Event.start
-  pub lasts : Each inCycle (events (step (after h before) first .heap) between)
-  pub ends : eventOn (after (step (after h before) first .heap) between) last ≡ Event.endCycle
+-- "A cycle runs from an accepted start to the next accepted sweep step that answers 0, 0, 0; a setup accepted before that breaks it off.": one that
+-- ends within the stages ss
+pub record Cycle (ss : List Stage) : Type 0 where
+  pub before : List Stage
+  pub first : Stage
+  pub between : List Stage
+  pub last : Stage
+  pub later : List Stage
+  pub list : ss ≡ before ++ (first ∷ (between ++ (last ∷ later)))
+  pub starts : first .event ≡ Event.start
+  pub lasts : Each inCycle (eventsOf between)
+  pub ends : last .event ≡ Event.endCycle
 
 -- THE CLAIM about the list rs, made on buffers of P pages that an accepted setup left as h
 pub record Demand (P : ℕ) (h : Heap) (rs : List Request) : Type 0 where
@@ -185,13 +165,12 @@ pub record Demand (P : ℕ) (h : Heap) (rs : List Request) : Type 0 where
   pub matches : Matches (onPages P (after h rs)) (ledger h rs)
   pub pages : Pages P (after h rs .table)
   -- at each of its calls
-  pub answers : (p : Place rs) → T (accepted (answerAt h p)) → Answered (p .here .call) (answerAt h p) (ledgerAfter h p)
+  pub answers : (p : Place rs) → Answered (subject (eventAt h p)) (answerAt h p) (ledgerAfter h p)
   -- a sweep, a sweep step or one inside a call, that turns off the allocated bit of word w: a record was born there, and the last of them was not freed
   -- before
   pub sweeps : (p : Place (stages h rs)) → T (isSweep (effect (p .here .event))) → (w : ℕ) → T (is allocated (heapBefore P h p) w) → T (not (is allocated (heapAfter P p) w)) →
-      let x = lastBorn (ledgerAt p) (addressOf w) in (0 < x) × (x ≤ ledgerAt p .count) × (freed P x h (p .before) ≡ 0)
+      let L = fed (p .before) in let x = lastBorn L (addressOf w) in (0 < x) × (x ≤ L .count) × (freed P x h (p .before) ≡ 0)
   -- "In a cycle that ends within the list, each record born before the start, not freed and not reachable by then, is freed by exactly one of its
   -- sweep steps.", the sweeps inside its calls among them
-  pub cycles : (C : Cycle h rs) (x : ℕ) → let L = ledger h (C .before) in let h₁ = step (after h (C .before)) (C .first) .heap in
-      0 < x → x ≤ L .count → freed P x h (stages h (C .before)) ≡ 0 → ¬ (Reachable L x) →
-      freesIn P x L h₁ (stages h₁ (C .between ++ (C .last ∷ []))) ≡ 1
+  pub cycles : (C : Cycle (stages h rs)) (x : ℕ) → let L = fed (C .before) in
+      0 < x → x ≤ L .count → freed P x h (C .before) ≡ 0 → ¬ (Reachable L x) → freesIn P x L (C .first .heap) (C .between ++ (C .last ∷ [])) ≡ 1

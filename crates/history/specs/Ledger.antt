@@ -7,19 +7,12 @@ use lib.ListN.{getD}
 use lib.Dec.{eqb}
 use Rattle.marking.specs.Ledger.{Event}
 use Rattle.model.specs.Memory.{Heap, lent}
-use Rattle.model.specs.Answers.{numbers}
+use Rattle.model.specs.Answers.{numbers, accepted}
 use Rattle.model.specs.Classes.{classOf, pagesFor, elementWordsOf}
 use Rattle.model.specs.Calls.{Call, Setup, Audit, Start, ScanGlobals, MarkStep, Finish, SweepStep, Open, Close, ScanStack, Clear, Copy, Get, LoadGlobal, StoreGlobal, Allocate, Load, Store, Put}
 use Rattle.model.specs.declared.Answer.{Answer}
 
--- the refusal's number of an answer, 0 if the call was accepted
-abbrev pub refusal : Answer → ℕ
-refusal a = getD (numbers a) 0 0
-
-abbrev pub accepted : Answer → Bool
-accepted a = eqb (refusal a) 0
-
--- its first value, and whether its values are 0, 0, 0
+-- the first value of an answer, and whether its values are 0, 0, 0
 abbrev pub firstValue : Answer → ℕ
 firstValue a = getD (numbers a) 1 0
 

@@ -9,7 +9,7 @@ use lib.ListN.{getD}
 use lib.Dec.{T, eqb, ltb, leb, ltb→lt, leb→le}
 use borrow.Author.Tests.{ltb-true, eqb-true, not-true}
 use Rattle.model.specs.Bounded.{firstBelow}
-use Rattle.model.specs.Memory.{Heap, withTable, phase, state, firstWord, stackCount, slotCount, pageWords, unsweptFlag}
+use Rattle.model.specs.Memory.{Heap, withTable, phase, state, firstWord, stackCount, slotCount, pageWords, unsweptFlag, closed, sweep}
 use Rattle.model.specs.Bitmaps.{allocated, is}
 use Rattle.model.specs.Classes.{classOf, kindOf, pagesFor, elementWordsOf}
 use Rattle.model.specs.Spans.{owner, kindEntry, isFree, elementWords, elements, elementStart, spanOf, elementOf, putPages, spanPage}
@@ -43,7 +43,7 @@ pub record Choice (h : Heap) (u : List ℕ) (w n p : ℕ) : Type 0 where
   pub flags : (v : ℕ) → T (is allocated h v) → unsweptAt u v ≡ unsweptAt (h .table) v
 
 -- to take it keeps the audit
-pub chosen-kept : {h : Heap} {u : List ℕ} {w n p : ℕ} → Audited h → Choice h u w n p → (s i : ℕ) → s < stackCount → i < slotCount → state h s ≢ 0 →
+pub chosen-kept : {h : Heap} {u : List ℕ} {w n p : ℕ} → Audited h → Choice h u w n p → (s i : ℕ) → s < stackCount → i < slotCount → state h s ≢ closed →
     Audited (taken s i w n p (withTable u h))
 chosen-kept {h} {u} {w} {n} {p} F C s i hs hi o =
     rw (C .word, C .words) at (taken-kept {h = withTable u h} (C .sized) (C .spans) (C .bits) (C .chosen) s i hs hi (C .phases) (C .references) (F .states) o (C .occupied))
@@ -96,7 +96,7 @@ module _ {h : Heap} (F : Audited h) {r n kind : ℕ} (Q : Vacant (h .pages) (h .
     unswept = λ e v m. rw (flags v (F .bits .marks v m)) (F .phases .unswept e v m);
   }
     where
-      swept : phase h ≢ 2 → (x : ℕ) → ((x ≡ r) ⊎ IsSpan t x) → kindEntry u x < unsweptFlag
+      swept : phase h ≢ sweep → (x : ℕ) → ((x ≡ r) ⊎ IsSpan t x) → kindEntry u x < unsweptFlag
       swept d x (inl e) = rw (e, new-entry (F .sized .table) (F .spans) Q .1) (Q .swept)
       swept d x (inr e) = rw (used-same (F .sized .table) (F .spans) Q x (omega arith) .2) (F .phases .swept d x e)
 

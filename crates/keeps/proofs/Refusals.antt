@@ -1,66 +1,81 @@
--- No call's own refusal is above 10: 12 is the entry's alone.
-use Prim.Native.Nat.{ℕ, _≤_}
+-- No call's own refusal is 12: that number is the entry's alone.
+use Prim.Native.Nat.{ℕ}
 use mathlib.Core.Bool.{Bool, true, false, cond, _&&_}
+use mathlib.Core.Logic.{_≢_}
 use native.Mathlib.Omega.{arith}
 use lib.Dec.{eqb}
-use Rattle.model.specs.Memory.{Heap, phase}
-use Rattle.model.specs.Answers.{_given_, _orElse_}
+use Rattle.model.specs.Memory.{Heap, phase, mark, sweep}
+use Rattle.model.specs.Answers.{_given_, _orElse_, damaged, wrongPhase, badStack, badSlot, badSize, nilSlot, badField, sweepFirst, noRoom, unfinished}
 use Rattle.model.specs.Classes.{kindOf, pagesFor}
-use Rattle.model.specs.Checks.{slotRefusal, slotsRefusal, globalRefusal, pointerRefusal, numberRefusal, sizeRefusal, openRefusal, slotNumberRefusal, globalNumberRefusal, nilRefusal, pointerFieldRefusal, numberFieldRefusal, recordAt, phaseRefusal}
+use Rattle.model.specs.Checks.{phaseRefusal, openRefusal, closedRefusal, slotNumberRefusal, globalNumberRefusal, sizeRefusal, nilRefusal, pointerFieldRefusal, numberFieldRefusal, recordAt, slotRefusal, slotsRefusal, globalRefusal, pointerRefusal, numberRefusal}
 use Rattle.model.specs.Allocate.{roomFor, roomRefusal, allocateRefusal, someUnswept}
 use Rattle.model.specs.Cycle.{finishRefusal}
 
-pub given-small : (n : ℕ) (b : Bool) → n ≤ 10 → (n given b) ≤ 10
+-- a row of the table, and rows one after the other
+given-not : (n : ℕ) (b : Bool) → n ≢ damaged → (n given b) ≢ damaged
 unfolding _given_
-given-small n true l = l
-given-small n false l = omega arith
+given-not n true d = d
+given-not n false d = omega arith
 
-pub orElse-small : (a b : ℕ) → a ≤ 10 → b ≤ 10 → (a orElse b) ≤ 10
+orElse-not : {a b : ℕ} → a ≢ damaged → b ≢ damaged → (a orElse b) ≢ damaged
 unfolding _orElse_
-orElse-small a b l m = go (eqb a 0)
+orElse-not {a} {b} d e = go (eqb a 0)
   where
-    go : (t : Bool) → cond t b a ≤ 10
-    go true = m
-    go false = l
+    go : (t : Bool) → cond t b a ≢ damaged
+    go true = e
+    go false = d
 
-pub slot-small : (h : Heap) (s i : ℕ) → slotRefusal h s i ≤ 10
+pub phase-not : (h : Heap) (ph : ℕ) → phaseRefusal h ph ≢ damaged
+phase-not h ph = given-not wrongPhase _ (omega arith)
+
+pub open-not : (h : Heap) (s : ℕ) → openRefusal h s ≢ damaged
+open-not h s = given-not badStack _ (omega arith)
+
+pub closed-not : (h : Heap) (s : ℕ) → closedRefusal h s ≢ damaged
+closed-not h s = given-not badStack _ (omega arith)
+
+number-not : (i : ℕ) → slotNumberRefusal i ≢ damaged
+number-not i = given-not badSlot _ (omega arith)
+
+nil-not : (h : Heap) (s j : ℕ) → nilRefusal h s j ≢ damaged
+nil-not h s j = given-not nilSlot _ (omega arith)
+
+pub slot-not : (h : Heap) (s i : ℕ) → slotRefusal h s i ≢ damaged
 unfolding slotRefusal
-slot-small h s i = orElse-small (openRefusal h s) (slotNumberRefusal i) (given-small 3 _ (omega arith)) (given-small 4 _ (omega arith))
+slot-not h s i = orElse-not (open-not h s) (number-not i)
 
-pub slots-small : (h : Heap) (s i j : ℕ) → slotsRefusal h s i j ≤ 10
+pub slots-not : (h : Heap) (s i j : ℕ) → slotsRefusal h s i j ≢ damaged
 unfolding slotsRefusal
-slots-small h s i j = orElse-small (openRefusal h s) (slotNumberRefusal i orElse slotNumberRefusal j) (given-small 3 _ (omega arith))
-    (orElse-small (slotNumberRefusal i) (slotNumberRefusal j) (given-small 4 _ (omega arith)) (given-small 4 _ (omega arith)))
+slots-not h s i j = orElse-not (open-not h s) (orElse-not (number-not i) (number-not j))
 
-pub global-small : (h : Heap) (s i g : ℕ) → globalRefusal h s i g ≤ 10
+pub global-not : (h : Heap) (s i g : ℕ) → globalRefusal h s i g ≢ damaged
 unfolding globalRefusal
-global-small h s i g = orElse-small (openRefusal h s) (slotNumberRefusal i orElse globalNumberRefusal g) (given-small 3 _ (omega arith))
-    (orElse-small (slotNumberRefusal i) (globalNumberRefusal g) (given-small 4 _ (omega arith)) (given-small 4 _ (omega arith)))
+global-not h s i g = orElse-not (open-not h s) (orElse-not (number-not i) (given-not badSlot _ (omega arith)))
 
-pub pointer-small : (h : Heap) (s i j f : ℕ) → pointerRefusal h s i j f ≤ 10
+pub pointer-not : (h : Heap) (s i j f : ℕ) → pointerRefusal h s i j f ≢ damaged
 unfolding pointerRefusal
-pointer-small h s i j f = orElse-small (slotsRefusal h s i j) (nilRefusal h s j orElse pointerFieldRefusal h (recordAt h s j) f) (slots-small h s i j)
-    (orElse-small (nilRefusal h s j) (pointerFieldRefusal h (recordAt h s j) f) (given-small 6 _ (omega arith)) (given-small 7 _ (omega arith)))
+pointer-not h s i j f = orElse-not (slots-not h s i j) (orElse-not (nil-not h s j) (given-not badField _ (omega arith)))
 
-pub number-small : (h : Heap) (s j f : ℕ) → numberRefusal h s j f ≤ 10
+pub field-not : (h : Heap) (s j f : ℕ) → numberRefusal h s j f ≢ damaged
 unfolding numberRefusal
-number-small h s j f = orElse-small (slotRefusal h s j) (nilRefusal h s j orElse numberFieldRefusal h (recordAt h s j) f) (slot-small h s j)
-    (orElse-small (nilRefusal h s j) (numberFieldRefusal h (recordAt h s j) f) (given-small 6 _ (omega arith)) (given-small 7 _ (omega arith)))
+field-not h s j f = orElse-not (slot-not h s j) (orElse-not (nil-not h s j) (given-not badField _ (omega arith)))
 
-room-small : (h : Heap) (kind n : ℕ) → roomRefusal h kind n ≤ 10
+room-not : (h : Heap) (kind n : ℕ) → roomRefusal h kind n ≢ damaged
 unfolding roomRefusal
-room-small h kind n = go (roomFor h kind n) (eqb (phase h) 2 && someUnswept (h .pages) (h .table))
+room-not h kind n = go (roomFor h kind n) (eqb (phase h) sweep && someUnswept (h .pages) (h .table))
   where
-    go : (a b : Bool) → cond a 0 (cond b 8 9) ≤ 10
+    go : (a b : Bool) → cond a 0 (cond b sweepFirst noRoom) ≢ damaged
     go true b = omega arith
     go false true = omega arith
     go false false = omega arith
 
-pub allocate-small : (h : Heap) (s i size p : ℕ) → allocateRefusal h s i size p ≤ 10
+pub allocate-not : (h : Heap) (s i size p : ℕ) → allocateRefusal h s i size p ≢ damaged
 unfolding allocateRefusal
-allocate-small h s i size p = orElse-small (slotRefusal h s i) (sizeRefusal size p orElse roomRefusal h (kindOf size p) (pagesFor size)) (slot-small h s i)
-    (orElse-small (sizeRefusal size p) (roomRefusal h (kindOf size p) (pagesFor size)) (given-small 5 _ (omega arith)) (room-small h (kindOf size p) (pagesFor size)))
+allocate-not h s i size p = orElse-not (slot-not h s i) (orElse-not (given-not badSize _ (omega arith)) (room-not h (kindOf size p) (pagesFor size)))
 
-pub finish-small : (h : Heap) → finishRefusal h ≤ 10
+pub scan-not : (h : Heap) (s : ℕ) → (phaseRefusal h mark orElse openRefusal h s) ≢ damaged
+scan-not h s = orElse-not (phase-not h mark) (open-not h s)
+
+pub finish-not : (h : Heap) → finishRefusal h ≢ damaged
 unfolding finishRefusal
-finish-small h = orElse-small (phaseRefusal h 1) _ (given-small 2 _ (omega arith)) (given-small 10 _ (omega arith))
+finish-not h = orElse-not (phase-not h mark) (given-not unfinished _ (omega arith))

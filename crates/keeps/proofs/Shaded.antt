@@ -9,7 +9,7 @@ use native.Mathlib.Omega.{arith}
 use lib.ListN.{getD, set, length-set}
 use lib.Dec.{T, eqb, eqb→eq}
 use borrow.Author.Tests.{eq-eqb, eqb-true, eqb-false}
-use Rattle.model.specs.Memory.{Heap, withArena, withBits, setRoot, slot, global, root, word, phase, stateAt, globalAt, stackCount, slotCount, globalCount, firstGlobal, firstState, globalsStateAt, pageWords}
+use Rattle.model.specs.Memory.{Heap, withArena, withBits, setRoot, slot, global, root, word, phase, stateAt, globalAt, stackCount, slotCount, globalCount, firstGlobal, firstState, globalsStateAt, pageWords, mark}
 use Rattle.model.specs.Bitmaps.{Part, allocated, marked, gray, pointer, is, putBit}
 use Rattle.model.specs.Spans.{elementOf, spanOf, kept, pointerCount, elementWords, recordOf}
 use Rattle.model.specs.Shading.{shade, shadeAll, barrier}
@@ -25,7 +25,7 @@ use Rattle.model.proofs.Shading.{shade-length, shade-marked, shade-gray, shade-
 use Rattle.keeps.proofs.Roots.{Refers, global-kept, scanned-kept, globals-kept}
 
 -- one value shaded in the mark phase
-module _ {h : Heap} (F : Audited h) (one : phase h ≡ 1) (v : ℕ) (r : Refers h v) where
+module _ {h : Heap} (F : Audited h) (one : phase h ≡ mark) (v : ℕ) (r : Refers h v) where
   abbrev t : List ℕ
   t = h .table
 
@@ -175,7 +175,7 @@ pub store-global-kept : {h : Heap} → Audited h → (g v : ℕ) → g < globalC
 store-global-kept {h} F g v hg rv = let x = barrier-kept F (global h g) v (F .references .root (firstGlobal + g) (omega arith)) rv in global-kept (x .0) g v hg (x .1 v rv)
 
 -- many values shaded, all of them references
-pub all-kept : {h : Heap} → Audited h → phase h ≡ 1 → (value : ℕ → ℕ) (n : ℕ) → ((k : ℕ) → k < n → Refers h (value k)) →
+pub all-kept : {h : Heap} → Audited h → phase h ≡ mark → (value : ℕ → ℕ) (n : ℕ) → ((k : ℕ) → k < n → Refers h (value k)) →
     Audited (withBits (shadeAll (h .pages) (h .table) n value (h .bits)) h) ×
     ((x : ℕ) → Refers h x → Refers (withBits (shadeAll (h .pages) (h .table) n value (h .bits)) h) x)
 unfolding shadeAll Rattle.model.specs.Bounded.foldBelow
@@ -186,10 +186,10 @@ all-kept {h} F one value (suc n) r =
     (shade-kept (f .0) one (value n) q, λ x y. shade-refers (f .0) one (value n) q x (f .1 x y))
 
 -- a stack is scanned, and the globals
-pub scan-stack-kept : {h : Heap} → Audited h → phase h ≡ 1 → (s : ℕ) → s < stackCount → getD (h .roots) (firstState + s) 0 ≢ 0 → Audited (scan slotCount (slot h s) (stateAt s) h)
+pub scan-stack-kept : {h : Heap} → Audited h → phase h ≡ mark → (s : ℕ) → s < stackCount → getD (h .roots) (firstState + s) 0 ≢ 0 → Audited (scan slotCount (slot h s) (stateAt s) h)
 scan-stack-kept {h} F one s hs o = scanned-kept (all-kept F one (slot h s) slotCount (λ i l. F .references .root (slotCount * s + i) (omega arith)) .0) s hs o
 
-pub scan-globals-kept : {h : Heap} → Audited h → phase h ≡ 1 → Audited (scan globalCount (global h) globalsStateAt h)
+pub scan-globals-kept : {h : Heap} → Audited h → phase h ≡ mark → Audited (scan globalCount (global h) globalsStateAt h)
 scan-globals-kept {h} F one = globals-kept (all-kept F one (global h) globalCount (λ i l. F .references .root (firstGlobal + i) (omega arith)) .0)
 
 -- a gray bit is cleared
@@ -244,7 +244,7 @@ ungray-kept {h} F w l = (
         go true x = absurd x
         go false x = x
 
-    none : (v : ℕ) (c : Bool) → bit (h .pages) gray b v ≡ c → phase h ≢ 1 → c ≡ false
+    none : (v : ℕ) (c : Bool) → bit (h .pages) gray b v ≡ c → phase h ≢ mark → c ≡ false
     none v true x d = absurd (true≢false (sym (of-true _ (less v (is-true _ x))) ∙ F .phases .plain d v))
     none v false x d = refl
 
@@ -255,7 +255,7 @@ ungray-kept {h} F w l = (
     ref = refers-over (h .pages) (h .table) (h .table) (h .bits) b (λ v k. rw (kept-is v) k)
 
 -- a mark step on the gray record at word w
-pub mark-kept : {h : Heap} → Audited h → phase h ≡ 1 → (w : ℕ) → T (is gray h w) → Audited (withBits (scanRecord w h) h)
+pub mark-kept : {h : Heap} → Audited h → phase h ≡ mark → (w : ℕ) → T (is gray h w) → Audited (withBits (scanRecord w h) h)
 unfolding scanRecord
 mark-kept {h} F one w g =
     let a = F .bits .marks w (F .bits .grays w g .0) in

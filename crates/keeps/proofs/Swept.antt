@@ -8,7 +8,7 @@ use native.Mathlib.Omega.{arith}
 use lib.ListN.{getD}
 use lib.Dec.{T, eqb}
 use borrow.Author.Tests.{lt-leb, le-leb, eq-eqb, eqb-true, eqb-false, not-false}
-use Rattle.model.specs.Memory.{Heap, phase, pageWords, unsweptFlag}
+use Rattle.model.specs.Memory.{Heap, phase, pageWords, unsweptFlag, sweep}
 use Rattle.model.specs.Bitmaps.{Part, allocated, marked, gray, pointer, is}
 use Rattle.model.specs.Spans.{owner, pageCount, kindEntry, isFree, elementWords, elements, elementStart, elementNumber, spanOf, elementOf, kept}
 use Rattle.model.specs.Cycle.{sweptBits, sweptTable, nothingLeft}
@@ -154,7 +154,7 @@ module _ {h : Heap} (F : Audited h) (s : ℕ) (span : IsSpan (h .table) s) (unsw
           let z = sym (scaled s n v) ∙ e in
           (x, rw y (f .2), like t u v (same-out F s span (v / pageWords) z) (same-out F s span (spanOf t v) (page-out F s span (v / pageWords) (f .0 .used) z)))
 
-  swept-bits : phase h ≡ 2 → Bits P u b′
+  swept-bits : phase h ≡ sweep → Bits P u b′
   swept-bits two = record {
     element = λ v x. let y = rw (at allocated v) at x in like-first (stay-like v y) (F .bits .element v (was-a v y));
     marks = λ v x. rw (at allocated v) (marks v (q v) (rw (at marked v) at x));
@@ -270,7 +270,7 @@ module _ {h : Heap} (F : Audited h) (s : ℕ) (span : IsSpan (h .table) s) (unsw
         (F .references .content v (f .0) (rw (kept-is (elementOf t v)) at (rw (like-element (f .2)) at kp)));
   }
 
-  swept-phases : phase h ≡ 2 → Phases P (phase h) u b′
+  swept-phases : phase h ≡ sweep → Phases P (phase h) u b′
   swept-phases two = record {
     none = λ e. absurd (omega arith);
     swept = λ d. absurd (d two);
@@ -313,7 +313,7 @@ module _ {h : Heap} (F : Audited h) (s : ℕ) (span : IsSpan (h .table) s) (unsw
           let x = q-home (f .0) (F .bits .element (f .0) (f .1) .lies .used) ∙ ap (λ (i : ℕ). eqb i s) (f .2) ∙ p in
           there (f .0) (rw x (f .1)) (f .2)
 
-  pub swept-kept : phase h ≡ 2 → Audited (swept s h)
+  pub swept-kept : phase h ≡ sweep → Audited (swept s h)
   swept-kept two = record {
     sized = record {
       low = F .sized .low;

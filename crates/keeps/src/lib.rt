@@ -1,2 +1,2 @@
-// Every call keeps the audit: facts of the definitions of `model`, below the code that goes on after a call and above nothing but `model`. No code here;
-// the laws stand in proofs/.
+// Every call keeps the audit: laws of the definitions of `model`, below the code, which may go on
+// after a call, and below `history`. No code here; the laws stand in proofs/.

@@ -9,7 +9,7 @@ use lib.Dec.{T, eqb, ltb}
 use borrow.Author.Tests.{eqb-true, eqb-false, ltb-true, ltb-false}
 use Rattle.model.specs.Bounded.{allBelow, someBelow}
 use Rattle.model.specs.Memory.{Heap, goodBuffers, words, state, phase, slot, globalsState, stackCount, slotCount, globalCount, wordBytes}
-use Rattle.model.specs.Answers.{_given_, _orElse_}
+use Rattle.model.specs.Answers.{_given_, _orElse_, badBuffers, damaged, sweepFirst, noRoom}
 use Rattle.model.specs.Bitmaps.{is, gray}
 use Rattle.model.specs.Spans.{elementWords, spanOf, pointerCount}
 use Rattle.model.specs.Checks.{slotRefusal, slotsRefusal, globalRefusal, pointerRefusal, numberRefusal, recordAt, openRefusal}
@@ -103,7 +103,7 @@ pub room-passed : (h : Heap) (kind n : ℕ) → roomRefusal h kind n ≡ 0 → T
 unfolding roomRefusal
 room-passed h kind n e = go (roomFor h kind n) (eqb (phase h) 2 && someUnswept (h .pages) (h .table)) e
   where
-    go : (a b : Bool) → _≡_ {A = ℕ} (cond a 0 (cond b 8 9)) 0 → T a
+    go : (a b : Bool) → _≡_ {A = ℕ} (cond a 0 (cond b sweepFirst noRoom)) 0 → T a
     go true b e = tt
     go false true e = absurd (omega arith)
     go false false e = absurd (omega arith)
@@ -143,11 +143,11 @@ pub entry-passes : (h : Heap) → Audited h → entry h ≡ 0
 unfolding entry
 entry-passes h F = simp (given-iff, orElse-iff, not-not-iff) (sized-good h (F .sized), facts-audit h F)
 
--- of a heap of good lengths it gives 0 or 12
-pub entry-damaged : (h : Heap) → Sized h → (entry h ≡ 0) ⊎ (entry h ≡ 12)
+-- of a heap of good lengths it gives 0 or 12, damaged
+pub entry-damaged : (h : Heap) → Sized h → (entry h ≡ 0) ⊎ (entry h ≡ damaged)
 unfolding entry
 entry-damaged h Z = rw (of-true (goodBuffers h) (sized-good h Z)) (go (audit h))
   where
-    go : (b : Bool) → ((1 given false orElse 12 given not b) ≡ 0) ⊎ ((1 given false orElse 12 given not b) ≡ 12)
+    go : (b : Bool) → ((badBuffers given false orElse damaged given not b) ≡ 0) ⊎ ((badBuffers given false orElse damaged given not b) ≡ damaged)
     go true = inl (unfold _given_ _orElse_ in refl)
     go false = inr (unfold _given_ _orElse_ in refl)

@@ -3,6 +3,7 @@ use Prim.Native.Nat.{ℕ}
 use mathlib.Core.Bool.{Bool, cond}
 use mathlib.Core.List.{List, [], _∷_}
 use mathlib.Core.Path.{_≡_}
+use lib.ListN.{getD}
 use Rattle.model.specs.Bounded.{_==_, if_then_else_}
 use Rattle.model.specs.Memory.{Heap, choose}
 use Rattle.model.specs.declared.Answer.{Answer}
@@ -64,6 +65,13 @@ numbers Done = 0 ∷ 0 ∷ 0 ∷ 0 ∷ []
 numbers (Value v) = 0 ∷ v ∷ 0 ∷ 0 ∷ []
 numbers (Swept start freed returned) = 0 ∷ start ∷ freed ∷ returned ∷ []
 
+-- the refusal's number of an answer, 0 if the call was accepted
+abbrev pub refusal : Answer → ℕ
+refusal a = getD (numbers a) 0 0
+
+abbrev pub accepted : Answer → Bool
+accepted a = refusal a == 0
+
 -- what a call comes to: its answer, and the heap that it leaves
 pub record Outcome : Type 0 where
   pub answer : Answer
@@ -73,7 +81,8 @@ pub record Outcome : Type 0 where
 abbrev pub outcome : ℕ → Heap → Answer → Heap → Outcome
 outcome n h a done = record { answer = cond (n == 0) a (Refused n); heap = choose (n == 0) done h }
 
--- what a call's contract says: its answer, case and numbers, and the four buffers afterwards are the outcome's
+-- what a call's contract says: its answer, case and numbers, and the four buffers afterwards are the outcome's. (`listed` follows from `answer`; it
+-- stands here since "the promises use that definition", `numbers`.)
 pub record Meets (o : Outcome) (r : Answer) (a t b s : List ℕ) : Type 0 where
   pub answer : r ≡ o .answer
   pub listed : numbers r ≡ numbers (o .answer)

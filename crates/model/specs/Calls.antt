@@ -1,7 +1,8 @@
 -- The calls with their numbers, what each does with the memory that it is lent, and lists of calls.
 use Prim.Native.Nat.{ℕ}
-use mathlib.Core.Bool.{not}
+use mathlib.Core.Bool.{Bool, true, false, not}
 use mathlib.Core.List.{List, [], _∷_}
+use Rattle.model.specs.Bounded.{if_then_else_}
 use Rattle.model.specs.Memory.{Heap, lent}
 use Rattle.model.specs.Answers.{Outcome, outcome, damaged, _given_, _orElse_}
 use Rattle.model.specs.Checks.{buffersRefusal}
@@ -12,18 +13,6 @@ use Rattle.model.specs.Cycle.{start, scanStack, scanGlobals, markStep, f
 use Rattle.model.specs.declared.Answer.{Answer}
 use Rattle.model.specs.declared.Answer.the-variants.{Done}
 
--- "Every call after setup asks the audit first.": refusal 1, then 12, "the audit below says no (not asked by setup)"
-unfoldable pub entry : Heap → ℕ
-entry h = buffersRefusal h orElse damaged given not (audit h)
-
--- .. and then what the call does
-abbrev pub audited : Heap → Outcome → Outcome
-audited h o = outcome (entry h) h (o .answer) (o .heap)
-
--- "The audit is also a call: refusal 1, refusal 12 for no, or accepted with 0."
-abbrev pub auditCall : Heap → Outcome
-auditCall h = audited h (record { answer = Done; heap = h })
-
 -- what is asked, with the call's numbers in the order of the trace line
 pub data Call : Type 0 where
   Setup Audit Start ScanGlobals MarkStep Finish SweepStep : Call
@@ -32,27 +21,66 @@ pub data Call : Type 0 where
   Copy Get LoadGlobal StoreGlobal : ℕ → ℕ → ℕ → Call
   Allocate Load Store Put : ℕ → ℕ → ℕ → ℕ → Call
 
--- what a call does with the heap that it is lent
+-- "Every call after setup asks the audit first."; "(not asked by setup)"
+abbrev pub asksAudit : Call → Bool
+asksAudit Setup = false
+asksAudit Audit = true
+asksAudit (Open s) = true
+asksAudit (Close s) = true
+asksAudit (Allocate s i size p) = true
+asksAudit (Copy s i j) = true
+asksAudit (Clear s i) = true
+asksAudit (Load s i j f) = true
+asksAudit (Store s j f k) = true
+asksAudit (Put s j f v) = true
+asksAudit (Get s j f) = true
+asksAudit (LoadGlobal s i g) = true
+asksAudit (StoreGlobal s g i) = true
+asksAudit Start = true
+asksAudit (ScanStack s) = true
+asksAudit ScanGlobals = true
+asksAudit MarkStep = true
+asksAudit Finish = true
+asksAudit SweepStep = true
+
+-- 1, then 12: "the audit below says no"
+unfoldable pub entry : Heap → ℕ
+entry h = buffersRefusal h orElse damaged given not (audit h)
+
+-- the refusal that is tested before all that a call does: 1, and for a call that asks the audit 12 after it
+abbrev pub entryRefusal : Heap → Call → ℕ
+entryRefusal h c = if asksAudit c then entry h else buffersRefusal h
+
+-- what a call does with a heap that has passed its entry. "The audit is also a call: refusal 1, refusal 12 for no, or accepted with 0.": past the entry
+-- nothing is left to do
+abbrev pub does : Heap → Call → Outcome
+does h Setup = setup h
+does h Audit = record { answer = Done; heap = h }
+does h (Open s) = openStack h s
+does h (Close s) = closeStack h s
+does h (Allocate s i size p) = allocate h s i size p
+does h (Copy s i j) = copy h s i j
+does h (Clear s i) = clear h s i
+does h (Load s i j f) = load h s i j f
+does h (Store s j f k) = store h s j f k
+does h (Put s j f v) = put h s j f v
+does h (Get s j f) = get h s j f
+does h (LoadGlobal s i g) = loadGlobal h s i g
+does h (StoreGlobal s g i) = storeGlobal h s g i
+does h Start = start h
+does h (ScanStack s) = scanStack h s
+does h ScanGlobals = scanGlobals h
+does h MarkStep = markStep h
+does h Finish = finish h
+does h SweepStep = sweepStep h
+
+-- an outcome after the entry of a call that asks the audit
+abbrev pub audited : Heap → Outcome → Outcome
+audited h o = outcome (entry h) h (o .answer) (o .heap)
+
+-- a call on the heap that it is lent: its entry, then what it does
 abbrev pub run : Heap → Call → Outcome
-run h Setup = setup h
-run h Audit = auditCall h
-run h (Open s) = audited h (openStack h s)
-run h (Close s) = audited h (closeStack h s)
-run h (Allocate s i size p) = audited h (allocate h s i size p)
-run h (Copy s i j) = audited h (copy h s i j)
-run h (Clear s i) = audited h (clear h s i)
-run h (Load s i j f) = audited h (load h s i j f)
-run h (Store s j f k) = audited h (store h s j f k)
-run h (Put s j f v) = audited h (put h s j f v)
-run h (Get s j f) = audited h (get h s j f)
-run h (LoadGlobal s i g) = audited h (loadGlobal h s i g)
-run h (StoreGlobal s g i) = audited h (storeGlobal h s g i)
-run h Start = audited h (start h)
-run h (ScanStack s) = audited h (scanStack h s)
-run h ScanGlobals = audited h (scanGlobals h)
-run h MarkStep = audited h (markStep h)
-run h Finish = audited h (finish h)
-run h SweepStep = audited h (sweepStep h)
+run h c = outcome (entryRefusal h c) h (does h c .answer) (does h c .heap)
 
 -- a call as it is made: P and what is asked
 pub record Request : Type 0 where

@@ -1,9 +1,9 @@
--- Setup, and the other calls on records, stacks and globals. All but setup are taken after the audit (Calls.run).
+-- Setup, and the other calls on records, stacks and globals, each after the test of the lengths and, for all but setup, the audit (Calls.run).
 use Prim.Native.Nat.{ℕ, _+_, _*_}
 use lib.ListN.{set, replicate}
 use Rattle.model.specs.Memory.{Heap, lent, withArena, withBits, withRoots, entryNumbers, bitmapWords, rootWords, slotCount, slotAt, globalAt, stateAt, globalsStateAt, slot, global, word, putWords, setRoot, nil, openState, closed}
 use Rattle.model.specs.Answers.{Outcome, outcome}
-use Rattle.model.specs.Checks.{buffersRefusal, openRefusal, closedRefusal, slotRefusal, slotsRefusal, globalRefusal, pointerRefusal, numberRefusal, recordAt}
+use Rattle.model.specs.Checks.{openRefusal, closedRefusal, slotRefusal, slotsRefusal, globalRefusal, pointerRefusal, numberRefusal, recordAt}
 use Rattle.model.specs.Shading.{barrier}
 use Rattle.model.specs.declared.Answer.the-variants.{Done, Value}
 
@@ -14,7 +14,7 @@ fresh h =
     (set (replicate rootWords 0) globalsStateAt openState)
 
 unfoldable pub setup : Heap → Outcome
-setup h = outcome (buffersRefusal h) h Done (fresh h)
+setup h = record { answer = Done; heap = fresh h }
 
 -- "slots nil", and the stack's state
 unfoldable pub emptied : Heap → ℕ → ℕ → Heap
