@@ -177,7 +177,8 @@ firstAddress = 8192
 abbrev pub addressOf : ℕ → ℕ
 addressOf w = firstAddress + wordBytes * w
 
--- the word that an address names
+-- the word that an address names. Subtraction is cut off at 0, so that every number below the first address gives word 0: who has to tell such a number
+-- from an address asks v == addressOf (wordOf v), as the audit does.
 abbrev pub wordOf : ℕ → ℕ
 wordOf a = (a - firstAddress) / wordBytes
 

@@ -73,7 +73,8 @@ elements t s = elementsOf (classAt t s)
 abbrev pub elementStart : List ℕ → ℕ → ℕ → ℕ
 elementStart t s k = firstWord s + k * elementWords t s
 
--- the start page of the span that holds word w
+-- the start page of the span that holds word w. A free page's owner is 0, and 0 - 1 is 0: of a word on a free page this says page 0, which means
+-- nothing; it is asked of words of a span alone, or with `isFree` beside it.
 abbrev pub spanOf : List ℕ → ℕ → ℕ
 spanOf t w = owner t (pageOf w) - 1
 
