@@ -16,7 +16,7 @@ use lib.Dec.{T, eqb}
 use Rattle.marking.specs.Effect.{lasting, inCycle, isSweep, turnedOff}
 use Rattle.marking.specs.Claim.{Subject, subject}
 use Rattle.marking.specs.Ledger.{Ledger, Event, effect, Each, empty, feed, feedAll, value, word as ledgerWord, Reachable, lastBorn}
-use Rattle.model.specs.Memory.{Heap, word, slot, global, state, wordOf, addressOf, stackCount, slotCount, globalCount}
+use Rattle.model.specs.Memory.{Heap, word, slot, global, state, wordOf, addressOf, stackCount, slotCount, globalCount, closed}
 use Rattle.model.specs.Bitmaps.{is, allocated}
 use Rattle.model.specs.Spans.{owner, pageCount, kindEntry}
 use Rattle.model.specs.Calls.{Setup, Request, step, sweepsOf, after}
@@ -92,7 +92,7 @@ heapAfter P p = onPages P (p .here .heap)
 -- "After the list the same stacks are open as in the ledger and every slot and global equals the ledger's; each reachable record has its
 -- allocated bit set, its words from its address on equal the ledger's, and no two such records share a word."
 pub record Matches (h : Heap) (L : Ledger) : Type 0 where
-  pub stacks : (s : ℕ) → s < stackCount → not (eqb (state h s) 0) ≡ L .opened s
+  pub stacks : (s : ℕ) → s < stackCount → not (eqb (state h s) closed) ≡ L .opened s
   pub slots : (s i : ℕ) → s < stackCount → i < slotCount → slot h s i ≡ value L (L .slot s i)
   pub globals : (g : ℕ) → g < globalCount → global h g ≡ value L (L .global g)
   pub bit : (x : ℕ) → Reachable L x → T (is allocated h (wordOf (L .address x)))
