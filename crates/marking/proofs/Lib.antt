@@ -1,7 +1,8 @@
 -- How the statements of specs/ are proved: Correct.correct, Exact.exactly and Advance.advancing are the theorems.
 --
 -- An abstract state (Graph, Colours, Operations), in which a record is the number of its birth, has an invariant that every operation keeps (Safety),
--- so that what can be reached is kept; Cycle counts what a cycle frees, Work and Progress what marking has done and has left to do. A heap that
+-- so that what can be reached is kept; Cycle counts what a cycle frees, Work and Progress what marking has done and has left to do. Phases says that
+-- every cycle has a finish between its start and its end. A heap that
 -- represents such a state (Represents) goes on doing so call by call (Simulation, Birth), and with the ledger (Agreement, Refinement). What a changed
 -- call has to supply again is its line in Operations.perform with Safety.perform-keeps and Cycle.cycle-keeps, its represents-.. in Simulation, and its
 -- step-.. in Refinement.
@@ -15,6 +16,7 @@ pub mod Graph
 pub mod Colours
 pub mod Operations
 pub mod Safety
+pub mod Phases
 pub mod Cycle
 pub mod Work
 pub mod Progress

@@ -93,7 +93,7 @@ last x n h = go (test (eqb x n))
     go (inl e) = inl (eqb→eq x n e)
     go (inr e) = inr (omega (arith, differ x n e))
 
-is-mark : {p : Phase} → p ≡ mark → T (marking p)
+pub is-mark : {p : Phase} → p ≡ mark → T (marking p)
 is-mark e = rw e tt
 
 pub initial-keeps : Invariant initial
