@@ -11,6 +11,7 @@ use borrow.Author.Tests.{ltb-true, ltb-false, eq-eqb, ne-eqb, leb-false}
 use Rattle.marking.proofs.Operations.{State}
 use Rattle.marking.proofs.Represents.{Layout}
 use Rattle.marking.specs.Ledger.{Ledger, Event}
+use Rattle.marking.specs.Event
 use Rattle.marking.specs.Trace.{Step}
 use Rattle.marking.specs.Trace
 use Rattle.marking.proofs.Agreement.{Agrees}
@@ -169,7 +170,7 @@ module _ {h : Heap} (F : Audited h) where
             said = tt;
             zero = refl;
           }
-      go one false e = record { step = Trace.Step.noneGray; audited = F; said = tt; zero = refl }
+      go one false e = record { step = Trace.Step.nothing; audited = F; said = tt; zero = refl }
 
   pub sweep-step-happens : let o = sweepStep h in Happens h SweepStep (o .answer) (o .heap)
   unfolding sweepStep

@@ -4,6 +4,7 @@ use mathlib.Core.List.{List, [], _∷_, _++_, append-assoc, append-nil}
 use mathlib.Core.Path.{_≡_}
 use native.Mathlib.Omega.{arith}
 use Rattle.marking.specs.Ledger.{Ledger, Event, feedAll}
+use Rattle.marking.specs.Event
 use Rattle.marking.specs.Claim
 use Rattle.marking.proofs.Freed.{Reached, reached}
 use Rattle.model.specs.Memory.{Heap}

@@ -9,6 +9,7 @@ use lib.ListN.{set}
 use lib.Dec.{T}
 use borrow.Author.Tests.{lt-ltb, eq-eqb}
 use Rattle.marking.specs.WordHeap
+use Rattle.marking.specs.Event.{Source}
 use Rattle.marking.specs.Trace.{Step}
 use Rattle.marking.specs.Trace
 use Rattle.model.specs.Memory.{Heap, withArena, withBits, withTable, setRoot, slot, global, word, wordOf, addressOf, slotAt, stackCount, slotCount, firstGlobal, pageWords}
@@ -58,7 +59,7 @@ module _ {h : Heap} (F : Audited h) where
   unfolding openStack emptied
   open-happens s = by-refusal F (Open s) (Rattle.model.specs.Checks.closedRefusal h s) (given-small 3 _ (omega arith)) Done (emptied h s 1) refl
       (λ e. let x = simp passes at e in record {
-        step = rw (emptied-view F s 1 true (x .0) refl refl) (Trace.Step.openStack s (audit-view F));
+        step = rw (emptied-view F s 1 true (x .0) refl refl) (Trace.Step.resetStack s true (audit-view F));
         audited = emptied-kept F s 1 (x .0) (omega arith);
         said = tt;
         zero = refl;
@@ -67,7 +68,7 @@ module _ {h : Heap} (F : Audited h) where
   pub close-happens : (s : ℕ) → let o = closeStack h s in Happens h (Close s) (o .answer) (o .heap)
   unfolding closeStack emptied
   close-happens s = by-refusal F (Close s) (openRefusal h s) (given-small 3 _ (omega arith)) Done (emptied h s 0) refl (λ e. let x = open-passed h s e in record {
-    step = rw (emptied-view F s 0 false (x .below) refl refl) (Trace.Step.closeStack s (audit-view F));
+    step = rw (emptied-view F s 0 false (x .below) refl refl) (Trace.Step.resetStack s false (audit-view F));
     audited = emptied-kept F s 0 (x .below) (omega arith);
     said = tt;
     zero = refl;
@@ -79,7 +80,7 @@ module _ {h : Heap} (F : Audited h) where
       (setRoot (slotAt s i) (slot h s j) h) refl (λ e.
       let x = slots-passed h s i j e in let o = x .0 in record {
         step = rw (slot-view F s i (slot h s j) (o .below) (x .1), ← (see-slot h s j (o .below) (x .2)))
-            (Trace.Step.copy s i j (audit-view F) (see-open h s (o .below) (o .isOpen)) (x .1));
+            (Trace.Step.assign s i (Source.slot j) (audit-view F) (see-open h s (o .below) (o .isOpen)) (x .1) tt);
         audited = slot-kept F s i (slot h s j) (o .below) (x .1) (o .isOpen) (root s j (o .below) (x .2));
         said = slot-now F s i (slot h s j) (o .below) (x .1);
         zero = refl;
@@ -89,7 +90,7 @@ module _ {h : Heap} (F : Audited h) where
   unfolding clear
   clear-happens s i = by-refusal F (Clear s i) (Rattle.model.specs.Checks.slotRefusal h s i) (slot-small h s i) (Value 0) (setRoot (slotAt s i) 0 h) refl (λ e.
       let x = slot-passed h s i e in let o = x .0 in record {
-        step = rw (slot-view F s i 0 (o .below) (x .1)) (Trace.Step.clear s i (audit-view F) (see-open h s (o .below) (o .isOpen)) (x .1));
+        step = rw (slot-view F s i 0 (o .below) (x .1)) (Trace.Step.assign s i Source.nil (audit-view F) (see-open h s (o .below) (o .isOpen)) (x .1) tt);
         audited = slot-kept F s i 0 (o .below) (x .1) (o .isOpen) (inl refl);
         said = slot-now F s i 0 (o .below) (x .1);
         zero = refl;
@@ -101,7 +102,7 @@ module _ {h : Heap} (F : Audited h) where
       (setRoot (slotAt s i) (global h g) h) refl (λ e.
       let x = global-passed h s i g e in let o = x .0 in record {
         step = rw (slot-view F s i (global h g) (o .below) (x .1), ← (see-global h g (x .2)))
-            (Trace.Step.loadGlobal s i g (audit-view F) (see-open h s (o .below) (o .isOpen)) (x .1));
+            (Trace.Step.assign s i (Source.global g) (audit-view F) (see-open h s (o .below) (o .isOpen)) (x .1) tt);
         audited = slot-kept F s i (global h g) (o .below) (x .1) (o .isOpen) (F .references .root (firstGlobal + g) (omega (arith, x .2)));
         said = slot-now F s i (global h g) (o .below) (x .1);
         zero = refl;
@@ -122,8 +123,8 @@ module _ {h : Heap} (F : Audited h) where
       let n = record-named s j (o .below) (x .slot) (x .named) in
       let z = see-record s j (o .below) (x .slot) in record {
         step = rw (slot-view F s i (word h (recordAt h s j + f)) (o .below) (x .other), ← (see-word h (recordAt h s j + f)), ← z)
-            (Trace.Step.load s i j f (audit-view F) (see-open h s (o .below) (o .isOpen)) (x .other)
-            (rw (see-slot h s j (o .below) (x .slot)) (omega (arith, x .named))) (rw (z, see-pointers h (recordAt h s j)) (x .field)));
+            (Trace.Step.assign s i (Source.pointer j f) (audit-view F) (see-open h s (o .below) (o .isOpen)) (x .other)
+            (rw (see-slot h s j (o .below) (x .slot)) (omega (arith, x .named)), rw (z, see-pointers h (recordAt h s j)) (x .field)));
         audited = slot-kept F s i (word h (recordAt h s j + f)) (o .below) (x .other) (o .isOpen) (pointer-word F (recordAt h s j) (n .0) (n .1) f (x .field) .1);
         said = slot-now F s i (word h (recordAt h s j + f)) (o .below) (x .other);
         zero = refl;

@@ -51,7 +51,7 @@ module _ {h : Heap} (F : Audited h) where
 
   pub happens : {L : Ledger} {S : State} {Y : Layout} → Agrees (view h) L S Y → (c : Call) → Happens h c (run h c .answer) (run h c .heap)
   happens R Setup = setup-happens
-  happens R Audit = entered Audit (record { answer = Done; heap = h }) (record { step = Trace.Step.audit; audited = F; said = λ t. tt; sound = omega arith })
+  happens R Audit = entered Audit (record { answer = Done; heap = h }) (record { step = Trace.Step.nothing; audited = F; said = λ t. tt; sound = omega arith })
   happens R (Open s) = entered (Open s) _ (open-happens F s)
   happens R (Close s) = entered (Close s) _ (close-happens F s)
   happens R (Allocate s i size p) = entered (Allocate s i size p) _ (allocate-happens F s i size p)

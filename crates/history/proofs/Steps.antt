@@ -61,7 +61,7 @@ pub record Happens (h : Heap) (c : Call) (a : Answer) (h′ : Heap) : Type 0 whe
 
 -- a refused call leaves all as it is
 pub is-refused : {h : Heap} → Audited h → (c : Call) (n : ℕ) → n ≢ 0 → n ≢ 12 → Happens h c (Refused n) h
-is-refused {h} F c n d m = record { step = rw (ne-eqb n 0 d) Trace.Step.refused; audited = F; said = λ t. absurd (d (eqb-true n 0 (of-true _ t))); sound = m }
+is-refused {h} F c n d m = record { step = rw (ne-eqb n 0 d) Trace.Step.nothing; audited = F; said = λ t. absurd (d (eqb-true n 0 (of-true _ t))); sound = m }
 
 -- an outcome by its refusal, which is none of 11 and 12
 pub by-refusal : {h : Heap} → Audited h → (c : Call) (n : ℕ) → n ≤ 10 → (a : Answer) (done : Heap) → done .pages ≡ h .pages → (n ≡ 0 → Accepts h c a done) →

@@ -10,6 +10,7 @@ use borrow.Author.Tests.{lt-ltb}
 use Rattle.marking.specs.Effect.{inCycle, inMarking}
 use Rattle.marking.specs.WordHeap
 use Rattle.marking.specs.Ledger.{Ledger, Event, effect, Each, empty, feed, feedAll, Reachable, lastBorn}
+use Rattle.marking.specs.Event
 use Rattle.marking.specs.Trace.{Step, Fresh}
 use Rattle.marking.specs.Trace
 use Rattle.marking.specs.Claim
@@ -84,19 +85,19 @@ paged P t F = record {
 
 -- the answers
 answered : (c : Call) (a : Answer) (h : Heap) (L : Ledger) → T (accepted a) → Gives c a h →
-    Claim.given (Claim.subject (event c a)) (view h) ≡ Claim.expected (Claim.subject (event c a)) L → Answered c a L
+    Claim.Answers (event c a) (view h) L → Answered c a L
 answered Setup a h L t g e = tt
 answered Audit a h L t g e = tt
 answered (Open s) a h L t g e = tt
 answered (Close s) a h L t g e = tt
-answered (Allocate s i size p) a h L t g e = g ∙ ap Value (rw (of-true (accepted a) t) at e)
-answered (Copy s i j) a h L t g e = g ∙ ap Value (rw (of-true (accepted a) t) at e)
-answered (Clear s i) a h L t g e = g ∙ ap Value (rw (of-true (accepted a) t) at e)
-answered (Load s i j f) a h L t g e = g ∙ ap Value (rw (of-true (accepted a) t) at e)
+answered (Allocate s i size p) a h L t g e = g ∙ ap Value (e .slots s i)
+answered (Copy s i j) a h L t g e = g ∙ ap Value (e .slots s i)
+answered (Clear s i) a h L t g e = g ∙ ap Value (e .slots s i)
+answered (Load s i j f) a h L t g e = g ∙ ap Value (e .slots s i)
 answered (Store s j f k) a h L t g e = tt
 answered (Put s j f v) a h L t g e = tt
-answered (Get s j f) a h L t g e = g ∙ ap Value (rw (of-true (accepted a) t) at e)
-answered (LoadGlobal s i g₁) a h L t g e = g ∙ ap Value (rw (of-true (accepted a) t) at e)
+answered (Get s j f) a h L t g e = g ∙ ap Value (e .got s j f (rw (of-true (accepted a) t)))
+answered (LoadGlobal s i g₁) a h L t g e = g ∙ ap Value (e .slots s i)
 answered (StoreGlobal s g₁ i) a h L t g e = tt
 answered Start a h L t g e = tt
 answered (ScanStack s) a h L t g e = tt
@@ -236,7 +237,7 @@ module _ (P : ℕ) (h : Heap) (F : Audited (onPages P h)) (Fr : Fresh (view (onP
     where
       -- an answer is given after the sweeps inside the call, which leave the ledger as it was
       answer-at : (before : List Request) (r : Request) → let e = eventOn (after h before) r in
-          Claim.given (Claim.subject e) (view (onPages P (step (after h before) r .heap))) ≡ Claim.expected (Claim.subject e) (feed e (ledger h before))
+          Claim.Answers e (view (onPages P (step (after h before) r .heap))) (feed e (ledger h before))
       answer-at before r = let m = next before r in
           rw (fed-sweeps (stages h before) (sweepsOf (after h before) r) empty) at (claim-at (join (run-of before .along) (m .sweeps)) .answers (m .happens .step))
 

@@ -9,6 +9,7 @@ use lib.ListN.{length, replicate}
 use lib.Dec.{T, eqb}
 use Rattle.marking.specs.Effect.{inCycle, inMarking}
 use Rattle.marking.specs.Ledger.{Ledger, Event, Each, feedAll, lastBorn}
+use Rattle.marking.specs.Event
 use Rattle.marking.specs.Claim.{workIn}
 use Rattle.marking.specs.Survivors.{Saved}
 use Rattle.model.specs.Bounded.{countBelow}

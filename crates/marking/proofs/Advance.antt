@@ -15,7 +15,9 @@ use Rattle.marking.proofs.Work.{black}
 use Rattle.marking.proofs.Progress.{left, Collecting, scan-falls, globals-falls, mark-falls, collecting-phase}
 use Rattle.model.specs.Memory.{wordOf}
 use Rattle.marking.proofs.Represents.{Layout, Live}
-use Rattle.marking.specs.Ledger.{Ledger, Event, feed}
+use Rattle.marking.specs.Event.{Event}
+use Rattle.marking.specs.Event
+use Rattle.marking.specs.Ledger.{Ledger, feed}
 use Rattle.marking.specs.Trace
 use Rattle.marking.specs.Trace.{Step}
 use Rattle.marking.specs.Claim.{isAllocated}

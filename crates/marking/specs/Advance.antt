@@ -10,7 +10,9 @@ use Rattle.marking.specs.Effect.{asNumber}
 use Rattle.marking.specs.Count.{total, count}
 use Rattle.marking.specs.WordHeap.{WordHeap}
 use Rattle.marking.specs.WordHeap
-use Rattle.marking.specs.Ledger.{Ledger, Event, feed}
+use Rattle.marking.specs.Event.{Event}
+use Rattle.marking.specs.Event
+use Rattle.marking.specs.Ledger.{Ledger, feed}
 use Rattle.marking.specs.Trace.{Step}
 use Rattle.marking.specs.Claim.{isAllocated}
 
