@@ -1,6 +1,6 @@
 -- DEMAND 3, proved: the claim of specs/Demand.antt, of every list of requests after an accepted setup.
 use Prim.Native.Nat.{ℕ, zero, suc, _+_, _-_, _≤_, _<_}
-use mathlib.Core.Bool.{Bool, true, false, not, cond, _&&_}
+use mathlib.Core.Bool.{Bool, true, false, not, _&&_}
 use mathlib.Core.List.{List, [], _∷_, _++_}
 use mathlib.Core.Logic.{_≢_}
 use mathlib.Core.Path.{_≡_, refl, ap, sym, _∙_, subst}
@@ -20,11 +20,9 @@ use Rattle.marking.proofs.Correct
 use Rattle.marking.proofs.Exact
 use Rattle.marking.specs.Survivors
 use Rattle.marking.specs.Survivors.{Saved}
-use Rattle.marking.specs.Effect
 use Rattle.marking.specs.Count
 use Rattle.marking.proofs.Advance.{toMark-bound}
 use Rattle.marking.proofs.Allocated
-use Rattle.model.specs.Bounded.{countBelow}
 use Rattle.model.specs.Memory.{Heap, words, goodBuffers, wordOf, addressOf, stackCount, slotCount, globalCount}
 use Rattle.model.specs.Answers.{_given_}
 use Rattle.model.specs.Bitmaps.{is, allocated}
@@ -121,24 +119,8 @@ unfolding view
 seen-allocated L h x t = t
 
 -- allocated records against allocated bits
-total-is : (p : ℕ → Bool) (n : ℕ) → Count.total p n ≡ countBelow n p
-unfolding Count.total countBelow
-total-is p zero = refl
-total-is p (suc n) = rw (total-is p n) (go (p n))
-  where
-    go : (b : Bool) → countBelow n p + Effect.asNumber b ≡ countBelow n p + cond b 1 0
-    go true = refl
-    go false = refl
-
 pub records-counted : (h : Heap) {L : Ledger} {n : ℕ → ℕ} → Reached (view h) L n → Count.count (Claim.isAllocated L (view h)) (suc (L .count)) ≤ allocatedIn h
-records-counted h {L} N = rw (← (total-is (is allocated h) (words h))) (seen (Allocated.records-bits (N .agrees) (words h) below))
-  where
-    below : (w : ℕ) → T (view h .allocated w) → w < words h
-    below w t = unfold view in bit-inside (words h) allocated (h .bits) w t
-
-    seen : Count.count (Claim.isAllocated L (view h)) (suc (L .count)) ≤ Count.total (view h .allocated) (words h) →
-        Count.count (Claim.isAllocated L (view h)) (suc (L .count)) ≤ Count.total (is allocated h) (words h)
-    seen l = unfold view in l
+records-counted h N = unfold view in Allocated.records-bits (N .agrees) (words h) (λ w t. bit-inside (words h) allocated (h .bits) w t)
 
 -- after an accepted setup
 module _ (P : ℕ) (h : Heap) (F : Audited (onPages P h)) (Fr : Fresh (view (onPages P h))) where

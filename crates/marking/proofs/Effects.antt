@@ -2,11 +2,11 @@
 use mathlib.Core.Path.{_≡_}
 use mathlib.Core.Bool.{true, false}
 use lib.Dec.{T}
-use Rattle.marking.specs.Effect.{Effect, none, works, sweeps, ends, _is_, decide, lasting, inCycle, inMarking, isSweep}
+use Rattle.marking.specs.Effect.{Effect, none, works, sweeps, ends, _is_, same, lasting, inCycle, inMarking, isSweep}
 use Rattle.marking.proofs.Updates.{and-left, or-case}
 
 is-this : (e f : Effect) → T (e is f) → e ≡ f
-is-this e f t = go (decide e f) t
+is-this e f t = go (same e f) t
   where
     go : (d : Dec (e ≡ f)) → T (elim d [ yes p ↦ true | no p ↦ false ]) → e ≡ f
     go (yes p) t = p

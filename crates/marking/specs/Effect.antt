@@ -1,16 +1,18 @@
--- What a call does to a cycle, of all that it does. The events that the ledger is fed (Event) and the calls of the abstract heap
--- (proofs/Operations.antt) each have an effect; all that is said of cycles goes by it. Nothing has to be read before it.
-use mathlib.Core.Bool.{Bool, true, false, not, _&&_, _||_}
+-- What a call does to a cycle, of all that it does, and the tests by which cycles are told. Every event (Event) has an effect, and so has every call
+-- of the abstract heap (proofs/Operations.antt). Nothing has to be read before it.
+--
+-- "A cycle runs from an accepted start to the next accepted sweep step that answers 0, 0, 0; a setup accepted before that breaks it off."
+use mathlib.Core.Bool.{Bool, true, false, not, cond, _&&_, _||_}
 use Prim.Native.Nat.{ℕ}
 
 infix 50 _is_
--- works: a mark step that takes a gray record. ends: the sweep step that ends a cycle; sweeps: any other
+-- none: most calls, a refused call among them. works: a mark step that takes a gray record. ends: the sweep step that ends a cycle; sweeps: any other
 pub data Effect : Type 0 where
   none setsUp starts works finishes sweeps ends : Effect
-  deriving Discrete as decide
+  deriving Discrete as same
 
 abbrev pub _is_ : Effect → Effect → Bool
-e is f = elim (decide e f) [ yes p ↦ true | no p ↦ false ]
+e is f = elim (same e f) [ yes p ↦ true | no p ↦ false ]
 
 -- every call but a setup
 abbrev pub lasting : Effect → Bool
@@ -20,7 +22,7 @@ lasting e = not (e is setsUp)
 abbrev pub inCycle : Effect → Bool
 inCycle e = lasting e && not (e is ends)
 
--- a call between a start and its finish
+-- a call between a start and its finish, in the mark phase: setups, starts, finishes and sweep steps are none
 abbrev pub inMarking : Effect → Bool
 inMarking e = e is none || e is works
 
@@ -29,13 +31,12 @@ abbrev pub isSweep : Effect → Bool
 isSweep e = e is sweeps || e is ends
 
 abbrev pub asNumber : Bool → ℕ
-asNumber true = 1
-asNumber false = 0
+asNumber b = cond b 1 0
 
--- only a sweep step frees: what was allocated and is no more
+-- how often, once or not at all, a call turns off a bit that was `before` and is `after` it: only a sweep step counts
 abbrev pub turnedOff : Effect → Bool → Bool → ℕ
 turnedOff e before after = asNumber (isSweep e && before && not after)
 
--- mark steps that do work
+-- how many mark steps that do work a call is
 abbrev pub work : Effect → ℕ
 work e = asNumber (e is works)
