@@ -9,6 +9,7 @@ use lib.Dec.{T, eqb, ltb}
 use borrow.Author.Tests.{ltb-true, ltb-false, ne-eqb}
 use Rattle.marking.proofs.Operations.{State}
 use Rattle.marking.proofs.Represents.{Layout}
+use Rattle.marking.specs.Event
 use Rattle.marking.specs.Ledger.{Ledger, Event}
 use Rattle.marking.specs.Trace.{Step}
 use Rattle.marking.specs.Trace
@@ -137,7 +138,7 @@ module _ {h : Heap} (F : Audited h) where
                 (Trace.Step.markStep w (audit-view F) (see-phase h one) (see-gray h w g));
             said = rw z tt;
           }
-      go one false e = record { step = Trace.Step.noneGray; said = tt }
+      go one false e = record { step = Trace.Step.nothing; said = tt }
 
   pub sweep-step-happens : let o = sweepStep h in Happens h SweepStep (o .answer) (o .heap)
   unfolding sweepStep

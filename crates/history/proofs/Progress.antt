@@ -10,6 +10,7 @@ use lib.ListN.{length, replicate}
 use lib.Dec.{T, eqb, ltb}
 use borrow.Author.Tests.{ltb-true, ltb-false, lt-ltb, le-ltb, eq-eqb, ne-eqb, eqb-true, eqb-false}
 use Rattle.marking.specs.WordHeap.{WordHeap, Phase}
+use Rattle.marking.specs.Event
 use Rattle.marking.specs.Ledger.{Ledger, Event, feed}
 use Rattle.marking.specs.Trace.{Step}
 use Rattle.marking.specs.Advance.{toMark, Advances}

@@ -8,7 +8,8 @@ use native.Mathlib.Omega.{arith}
 use lib.ListN.{set}
 use lib.Dec.{T}
 use borrow.Author.Tests.{lt-ltb, eq-eqb}
-use Rattle.marking.specs.WordHeap.{named}
+use Rattle.marking.specs.WordHeap.{recordIn}
+use Rattle.marking.specs.Event.{Source}
 use Rattle.marking.specs.Trace.{Step}
 use Rattle.marking.specs.Trace
 use Rattle.model.specs.Memory.{Heap, withArena, withBits, withTable, setRoot, slot, global, word, addressOf, slotAt, globalAt, stackCount, slotCount, pageWords, openState, closed}
@@ -53,14 +54,14 @@ module _ {h : Heap} (F : Audited h) where
   unfolding openStack emptied
   open-happens s = by-refusal h (Open s) (closedRefusal h s) Done (emptied h s openState) refl
       (λ e. let x = simp passes at e in record {
-        step = rw (emptied-view F s openState true (x .0) refl refl) (Trace.Step.openStack s (audit-view F));
+        step = rw (emptied-view F s openState true (x .0) refl refl) (Trace.Step.resetStack s true (audit-view F));
         said = tt;
       })
 
   pub close-happens : (s : ℕ) → let o = closeStack h s in Happens h (Close s) (o .answer) (o .heap)
   unfolding closeStack emptied
   close-happens s = by-refusal h (Close s) (openRefusal h s) Done (emptied h s closed) refl (λ e. let x = open-passed h s e in record {
-    step = rw (emptied-view F s closed false (x .below) refl refl) (Trace.Step.closeStack s (audit-view F));
+    step = rw (emptied-view F s closed false (x .below) refl refl) (Trace.Step.resetStack s false (audit-view F));
     said = tt;
   })
 
@@ -70,7 +71,7 @@ module _ {h : Heap} (F : Audited h) where
       (setRoot (slotAt s i) (slot h s j) h) refl (λ e.
       let x = slots-passed h s i j e in let o = x .0 in record {
         step = rw (slot-view F s i (slot h s j) (o .below) (x .1), ← (see-slot h s j (o .below) (x .2)))
-            (Trace.Step.copy s i j (audit-view F) (see-open h s (o .below) (o .isOpen)) (x .1));
+            (Trace.Step.assign s i (Source.slot j) (audit-view F) (see-open h s (o .below) (o .isOpen)) (x .1) tt);
         said = slot-now F s i (slot h s j) (o .below) (x .1);
       })
 
@@ -78,7 +79,7 @@ module _ {h : Heap} (F : Audited h) where
   unfolding clear
   clear-happens s i = by-refusal h (Clear s i) (slotRefusal h s i) (Value 0) (setRoot (slotAt s i) 0 h) refl (λ e.
       let x = slot-passed h s i e in let o = x .0 in record {
-        step = rw (slot-view F s i 0 (o .below) (x .1)) (Trace.Step.clear s i (audit-view F) (see-open h s (o .below) (o .isOpen)) (x .1));
+        step = rw (slot-view F s i 0 (o .below) (x .1)) (Trace.Step.assign s i Source.nil (audit-view F) (see-open h s (o .below) (o .isOpen)) (x .1) tt);
         said = slot-now F s i 0 (o .below) (x .1);
       })
 
@@ -88,12 +89,12 @@ module _ {h : Heap} (F : Audited h) where
       (setRoot (slotAt s i) (global h g) h) refl (λ e.
       let x = global-passed h s i g e in let o = x .0 in record {
         step = rw (slot-view F s i (global h g) (o .below) (x .1), ← (see-global h g (x .2)))
-            (Trace.Step.loadGlobal s i g (audit-view F) (see-open h s (o .below) (o .isOpen)) (x .1));
+            (Trace.Step.assign s i (Source.global g) (audit-view F) (see-open h s (o .below) (o .isOpen)) (x .1) tt);
         said = slot-now F s i (global h g) (o .below) (x .1);
       })
 
   -- the record in slot j
-  see-record : (s j : ℕ) → s < stackCount → j < slotCount → named (view h .elements) (view h .slots s j) ≡ recordAt h s j
+  see-record : (s j : ℕ) → s < stackCount → j < slotCount → recordIn (view h) s j ≡ recordAt h s j
   see-record s j a b = rw (see-slot h s j a b)
 
   pub load-happens : (s i j f : ℕ) → let o = load h s i j f in Happens h (Load s i j f) (o .answer) (o .heap)
@@ -104,8 +105,8 @@ module _ {h : Heap} (F : Audited h) where
       let n = record-named F s j (o .below) (x .slot) (x .named) in
       let z = see-record s j (o .below) (x .slot) in record {
         step = rw (slot-view F s i (word h (recordAt h s j + f)) (o .below) (x .other), ← (see-word h (recordAt h s j + f)), ← z)
-            (Trace.Step.load s i j f (audit-view F) (see-open h s (o .below) (o .isOpen)) (x .other)
-            (rw (see-slot h s j (o .below) (x .slot)) (omega (arith, x .named))) (rw (z, see-pointers h (recordAt h s j)) (x .field)));
+            (Trace.Step.assign s i (Source.pointer j f) (audit-view F) (see-open h s (o .below) (o .isOpen)) (x .other)
+            (rw (see-slot h s j (o .below) (x .slot)) (omega (arith, x .named)), rw (z, see-pointers h (recordAt h s j)) (x .field)));
         said = slot-now F s i (word h (recordAt h s j + f)) (o .below) (x .other);
       })
 

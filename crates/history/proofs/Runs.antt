@@ -40,7 +40,7 @@ module _ {h : Heap} (F : Audited h) where
 
   does-happens : (c : Call) → Happens h c (does h c .answer) (does h c .heap)
   does-happens Setup = setup-happens
-  does-happens Audit = record { step = Trace.Step.audit; said = tt }
+  does-happens Audit = record { step = Trace.Step.nothing; said = tt }
   does-happens (Open s) = open-happens F s
   does-happens (Close s) = close-happens F s
   does-happens (Allocate s i size p) = allocate-happens F s i size p

@@ -8,6 +8,7 @@ use native.Mathlib.Omega.{arith}
 use lib.Dec.{T}
 use Rattle.marking.specs.Effect.{inCycle, inMarking}
 use Rattle.marking.specs.WordHeap.{Phase}
+use Rattle.marking.specs.Event
 use Rattle.marking.specs.Ledger.{Ledger, Event, effect, Each, feed, feedAll}
 use Rattle.marking.specs.Trace.{Step, Steps, ready}
 use Rattle.marking.specs.Trace

@@ -7,7 +7,7 @@ use mathlib.Core.Path.{_≡_, refl, ap, sym}
 use native.Mathlib.Omega.{arith}
 use lib.Dec.{T, eqb}
 use borrow.Author.Tests.{lt-ltb, eq-eqb, ne-eqb, eqb-true, eqb-false}
-use Rattle.marking.specs.WordHeap.{Phase, off, mark, sweep, LegalColours}
+use Rattle.marking.specs.WordHeap.{Phase, off, mark, sweep, LegalColours, recordIn}
 use Rattle.marking.specs.WordHeap
 use Rattle.marking.specs.Trace.{Step}
 use Rattle.marking.specs.Trace
@@ -21,14 +21,14 @@ use Rattle.model.proofs.Tests.{of-true}
 use Rattle.model.specs.Facts.{Audited}
 use Rattle.model.proofs.Facts.{not-unswept}
 use Rattle.history.specs.Ledger.{event}
-use Rattle.marking.specs.Claim.{Subject, subject, given}
+use Rattle.history.specs.Demand.{Subject, subject}
 use Rattle.history.proofs.View.{view, phaseOf, lateAt, wordsAt, runFrom, marking-is}
 
 -- what a call has answered, where its answer is about a slot or a word: what the heap that it leaves has there
 abbrev pub Said : Subject → Answer → Heap → Type 0
 Said Subject.nothing a h = Unit {0}
-Said (Subject.slot s i) a h = a ≡ Value (given (Subject.slot s i) (view h))
-Said (Subject.number s j f) a h = a ≡ Value (given (Subject.number s j f) (view h))
+Said (Subject.inSlot s i) a h = a ≡ Value (view h .slots s i)
+Said (Subject.inWord s j f) a h = a ≡ Value (view h .arena (recordIn (view h) s j + f))
 
 -- what a call on h comes to
 pub record Happens (h : Heap) (c : Call) (a : Answer) (h′ : Heap) : Type 0 where
@@ -37,7 +37,7 @@ pub record Happens (h : Heap) (c : Call) (a : Answer) (h′ : Heap) : Type 0 whe
 
 -- a refused call leaves all as it is
 pub is-refused : (h : Heap) (c : Call) (n : ℕ) → n ≢ 0 → Happens h c (Refused n) h
-is-refused h c n d = record { step = rw (ne-eqb n 0 d) Trace.Step.refused; said = rw (ne-eqb n 0 d) tt }
+is-refused h c n d = record { step = rw (ne-eqb n 0 d) Trace.Step.nothing; said = rw (ne-eqb n 0 d) tt }
 
 -- an outcome by its refusal
 pub by-refusal : (h : Heap) (c : Call) (n : ℕ) (a : Answer) (done : Heap) → done .pages ≡ h .pages → (n ≡ 0 → Happens h c a done) →

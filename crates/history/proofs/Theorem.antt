@@ -7,12 +7,12 @@ use mathlib.Core.Path.{_≡_, refl, ap, sym, _∙_, subst}
 use native.Mathlib.Omega.{arith}
 use lib.Dec.{T}
 use borrow.Author.Tests.{lt-ltb}
-use Rattle.marking.specs.Effect
 use Rattle.marking.specs.Count
+use Rattle.marking.specs.Event.{Write}
+use Rattle.marking.specs.Event
 use Rattle.marking.specs.Ledger.{Ledger, Event, empty, feed, feedAll, Reachable, lastBorn}
 use Rattle.marking.specs.Trace.{Fresh}
 use Rattle.marking.specs.Trace
-use Rattle.marking.specs.Claim.{Subject, subject}
 use Rattle.marking.specs.Claim
 use Rattle.marking.specs.Survivors.{Saved}
 use Rattle.marking.specs.Survivors
@@ -22,7 +22,6 @@ use Rattle.marking.proofs.Correct
 use Rattle.marking.proofs.Exact
 use Rattle.marking.proofs.Advance.{toMark-bound}
 use Rattle.marking.proofs.Allocated
-use Rattle.model.specs.Bounded.{countBelow}
 use Rattle.model.specs.Memory.{Heap, words, goodBuffers, wordOf, addressOf, stackCount, slotCount, globalCount}
 use Rattle.model.specs.Answers.{accepted, _given_}
 use Rattle.model.specs.Bitmaps.{is, allocated}
@@ -39,7 +38,7 @@ use Rattle.model.proofs.Spans.{whole}
 use Rattle.model.proofs.Audit.{sized}
 use Rattle.keeps.proofs.Fresh.{fresh-kept}
 use Rattle.history.specs.Ledger.{onPages}
-use Rattle.history.specs.Demand.{setupOf, eventOn, Stage, sweepStage, stages, eventsOf, endOf, fed, ledger, Matches, FreePage, Pages, Answered, freesIn, freed, Cycle, Demand}
+use Rattle.history.specs.Demand.{setupOf, eventOn, Stage, sweepStage, stages, eventsOf, endOf, fed, ledger, Matches, FreePage, Pages, Subject, subject, Answered, freesIn, freed, Cycle, Demand}
 use Rattle.history.specs.Beyond.{Marking, Whole, markingEvents, ledgerAtStart, ledgerAtFinish, heapAtFinish, isAllocated, isMarked, allocatedIn, Beyond}
 use Rattle.history.proofs.Fresh.{fresh-view}
 use Rattle.history.proofs.View.{view, wordsAt}
@@ -82,11 +81,18 @@ paged P t F = record {
     owned : (g : ℕ) → ¬ (FreePage t g) → 0 < owner t g
     owned g d = let z : owner t g ≢ 0 = λ e. d (is-free g e) in omega arith
 
--- an answer: what the call said of the heap that it leaves, and what the ledger expects there
-answered : (q : Subject) (a : Answer) (h : Heap) (L : Ledger) → Said q a h → Claim.given q (view h) ≡ Claim.expected q L → Answered q a L
-answered Subject.nothing a h L g e = tt
-answered (Subject.slot s i) a h L g e = g ∙ ap Value e
-answered (Subject.number s j f) a h L g e = g ∙ ap Value e
+-- an answer: what the call said of the heap that it leaves, and what the ledger has there
+answered : (e : Event) (a : Answer) (h : Heap) (L : Ledger) → Said (subject e) a h → Claim.Answers e (view h) L → Answered (subject e) a L
+answered (Event.writes (Write.resetStack s b)) a h L g M = tt
+answered (Event.writes (Write.assign s i v)) a h L g M = g ∙ ap Value (M .slots s i)
+answered (Event.writes (Write.store s j f k)) a h L g M = tt
+answered (Event.writes (Write.storeGlobal s g₁ i)) a h L g M = tt
+answered (Event.writes (Write.put s j f v)) a h L g M = tt
+answered (Event.writes (Write.allocate s i p n b)) a h L g M = g ∙ ap Value (M .slots s i)
+answered (Event.get s j f) a h L g M = g ∙ ap Value (M .got s j f refl)
+answered (Event.scanStack s) a h L g M = tt
+answered Event.scanGlobals a h L g M = tt
+answered (Event.does c) a h L g M = tt
 
 -- an allocated record, seen in the view
 seen-allocated : (L : Ledger) (h : Heap) (x : ℕ) → T (isAllocated L h x) → T (Claim.isAllocated L (view h) x)
@@ -94,24 +100,8 @@ unfolding view
 seen-allocated L h x t = t
 
 -- allocated records against allocated bits
-total-is : (p : ℕ → Bool) (n : ℕ) → Count.total p n ≡ countBelow n p
-unfolding Count.total countBelow
-total-is p zero = refl
-total-is p (suc n) = rw (total-is p n) (go (p n))
-  where
-    go : (b : Bool) → countBelow n p + Effect.asNumber b ≡ countBelow n p + cond b 1 0
-    go true = refl
-    go false = refl
-
-pub records-counted : (h : Heap) {L : Ledger} {n : ℕ → ℕ} → Reached (view h) L n → Count.count (Claim.isAllocated L (view h)) (suc (L .count)) ≤ allocatedIn h
-records-counted h {L} N = rw (← (total-is (is allocated h) (words h))) (seen (Allocated.records-bits (N .agrees) (words h) below))
-  where
-    below : (w : ℕ) → T (view h .allocated w) → w < words h
-    below w t = unfold view in bit-inside (words h) allocated (h .bits) w t
-
-    seen : Count.count (Claim.isAllocated L (view h)) (suc (L .count)) ≤ Count.total (view h .allocated) (words h) →
-        Count.count (Claim.isAllocated L (view h)) (suc (L .count)) ≤ Count.total (is allocated h) (words h)
-    seen l = unfold view in l
+records-counted : (h : Heap) {L : Ledger} {n : ℕ → ℕ} → Reached (view h) L n → Count.count (Claim.isAllocated L (view h)) (suc (L .count)) ≤ allocatedIn h
+records-counted h N = unfold view in Allocated.records-bits (N .agrees) (words h) (λ w t. bit-inside (words h) allocated (h .bits) w t)
 
 -- after an accepted setup
 module _ (P : ℕ) (h : Heap) (F : Audited (onPages P h)) (Fr : Fresh (view (onPages P h))) where
@@ -151,7 +141,7 @@ module _ (P : ℕ) (h : Heap) (F : Audited (onPages P h)) (Fr : Fresh (view (onP
       let ss = stages h before ++ map sweepStage (sweepsOf g r) in
       let s : Stage = record { event = eventOn g r; heap = step g r .heap } in
       rw (stages-last h before r, ← (append-assoc (stages h before) (map sweepStage (sweepsOf g r)) (s ∷ [])), fed-last ss s empty)
-      (answered (subject (eventOn g r)) (step g r .answer) (onPages P (step g r .heap)) (feed (eventOn g r) (fed ss)) (m .happens .said)
+      (answered (eventOn g r) (step g r .answer) (onPages P (step g r .heap)) (feed (eventOn g r) (fed ss)) (m .happens .said)
       (claim (join (run-of before .along) (m .sweeps)) .answers (m .happens .step)))
 
   -- where an allocated bit is on, a record was born, and the last of them was not freed

@@ -12,6 +12,8 @@ use Rattle.marking.specs.Updates.{update}
 use Rattle.marking.proofs.Updates.{update-is}
 use Rattle.marking.specs.WordHeap
 use Rattle.marking.specs.WordHeap.{Elements, Alike, heapAllocate, heapSweep, LegalColours}
+use Rattle.marking.specs.Event.{Write}
+use Rattle.marking.specs.Event
 use Rattle.marking.specs.Ledger.{Event}
 use Rattle.marking.specs.Trace.{Step}
 use Rattle.marking.specs.Trace
@@ -144,7 +146,7 @@ module _ {h₀ : Heap} {u : List ℕ} {w n p : ℕ} (F₀ : Audited h₀) (C : C
   unfolding lateAt
   lates v x = rw (C .flags v x, C .used v x)
 
-  pub taken-step : LegalColours (view h₀) → T (view h₀ .opened s) → Step (view h₀) (Event.allocate s i p n (addressOf w)) (view (taken s i w n p (withTable u h₀)))
+  pub taken-step : LegalColours (view h₀) → T (view h₀ .opened s) → Step (view h₀) (Event.writes (Write.allocate s i p n (addressOf w))) (view (taken s i w n p (withTable u h₀)))
   unfolding view wordsAt
   taken-step A o =
       rw is-new (Trace.Step.allocate s i p n w (λ x. getD (after .arena) x 0) (elementsOf u (is pointer after)) (lateAt u) A o hi apart

@@ -8,6 +8,7 @@ use mathlib.Core.Path.{_≡_}
 use lib.ListN.{length, replicate}
 use lib.Dec.{T, eqb}
 use Rattle.marking.specs.Effect.{inCycle, inMarking}
+use Rattle.marking.specs.Event
 use Rattle.marking.specs.Ledger.{Ledger, Event, Each, feedAll, lastBorn}
 use Rattle.marking.specs.Claim.{workIn}
 use Rattle.marking.specs.Survivors.{Saved}

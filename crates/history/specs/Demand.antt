@@ -14,7 +14,8 @@ use mathlib.Core.Path.{_≡_}
 use lib.ListN.{length}
 use lib.Dec.{T, eqb}
 use Rattle.marking.specs.Effect.{lasting, inCycle, isSweep, turnedOff}
-use Rattle.marking.specs.Claim.{Subject, subject}
+use Rattle.marking.specs.Event.{Write}
+use Rattle.marking.specs.Event
 use Rattle.marking.specs.Ledger.{Ledger, Event, effect, Each, empty, feed, feedAll, value, word as ledgerWord, Reachable, lastBorn}
 use Rattle.model.specs.Memory.{Heap, word, slot, global, state, wordOf, addressOf, stackCount, slotCount, globalCount, closed}
 use Rattle.model.specs.Bitmaps.{is, allocated}
@@ -119,12 +120,30 @@ pub record Pages (P : ℕ) (t : List ℕ) : Type 0 where
   pub zero : (g : ℕ) → owner t g ≡ 0 → FreePage t g
   pub inside : (s g : ℕ) → InSpan t s g → g < P
 
--- "Each accepted call that sets a slot answered the ledger's new value of it, and get that of its word.": by what the answer is about, which is
--- nothing for a refused call and for every other; L is the ledger after the call
+-- what the answer of a call with this event is about: the slot that it sets, the word that it gets, or nothing that the ledger knows, as that of a
+-- refused call
+pub data Subject : Type 0 where
+  nothing : Subject
+  inSlot : (s i : ℕ) → Subject
+  inWord : (s j f : ℕ) → Subject
+
+abbrev pub subject : Event → Subject
+subject (Event.writes (Write.resetStack s b)) = Subject.nothing
+subject (Event.writes (Write.assign s i v)) = Subject.inSlot s i
+subject (Event.writes (Write.store s j f k)) = Subject.nothing
+subject (Event.writes (Write.storeGlobal s g i)) = Subject.nothing
+subject (Event.writes (Write.put s j f v)) = Subject.nothing
+subject (Event.writes (Write.allocate s i p n a)) = Subject.inSlot s i
+subject (Event.get s j f) = Subject.inWord s j f
+subject (Event.scanStack s) = Subject.nothing
+subject Event.scanGlobals = Subject.nothing
+subject (Event.does c) = Subject.nothing
+
+-- "Each accepted call that sets a slot answered the ledger's new value of it, and get that of its word.": L is the ledger after the call
 abbrev pub Answered : Subject → Answer → Ledger → Type 0
 Answered Subject.nothing a L = Unit {0}
-Answered (Subject.slot s i) a L = a ≡ Value (value L (L .slot s i))
-Answered (Subject.number s j f) a L = a ≡ Value (ledgerWord L (L .slot s j) f)
+Answered (Subject.inSlot s i) a L = a ≡ Value (value L (L .slot s i))
+Answered (Subject.inWord s j f) a L = a ≡ Value (ledgerWord L (L .slot s j) f)
 
 -- "A sweep step that turns off the allocated bit at an address frees the record last born there.": how often, once or not at all, the stage with
 -- event e frees the record x, from heap h to heap h′ and with L the ledger before it

@@ -7,15 +7,18 @@ use native.Mathlib.Omega.{arith}
 use lib.Dec.{T}
 use Rattle.marking.proofs.Updates.{clash, and-both, and-left, and-right}
 use Rattle.marking.specs.Effect.{asNumber}
-use Rattle.marking.specs.Count.{total, count}
-use Rattle.marking.proofs.Count.{count-le, count-lt, count-same, total-same, total-all}
+use Rattle.model.proofs.Bounded
+use Rattle.marking.specs.Count.{count}
+use Rattle.marking.proofs.Count.{count-le, count-lt, count-same}
 use Rattle.marking.proofs.Operations.{State, Operation, perform}
 use Rattle.marking.specs.WordHeap.{mark, marking, WordHeap, heapSweep}
 use Rattle.marking.proofs.Work.{black}
 use Rattle.marking.proofs.Progress.{left, Collecting, scan-falls, globals-falls, mark-falls, collecting-phase}
 use Rattle.model.specs.Memory.{wordOf}
 use Rattle.marking.proofs.Represents.{Layout, Live}
-use Rattle.marking.specs.Ledger.{Ledger, Event, feed}
+use Rattle.marking.specs.Event.{Event}
+use Rattle.marking.specs.Event
+use Rattle.marking.specs.Ledger.{Ledger, feed}
 use Rattle.marking.specs.Trace
 use Rattle.marking.specs.Trace.{Step}
 use Rattle.marking.specs.Claim.{isAllocated}
@@ -30,7 +33,7 @@ pub toMark-bound : (n : ℕ) (L : Ledger) (H : WordHeap) → toMark n L H ≤ n 
 unfolding toMark
 toMark-bound n L H = omega (
   arith,
-  total-all (H .bits .grayStack) n,
+  Bounded.count-le n (H .bits .grayStack),
   one (H .bits .grayGlobals),
   count-le (λ x. isAllocated L H x && not (isBlack L H x)) (isAllocated L H) (suc (L .count)) (λ x _ _ t. and-left (isAllocated L H x) _ t),
 )
@@ -48,7 +51,7 @@ module _ {H : WordHeap} {L : Ledger} {S : State} {Y : Layout} (R : Agrees H L S 
   toMark-is : (n : ℕ) → toMark n L H ≡ left n S
   unfolding toMark
   toMark-is n = rw (
-    total-same (H .bits .grayStack) (S .colours .grayStack) n (λ t _. R .represents .colours m .grayStack t),
+    Bounded.count-cong n (H .bits .grayStack) (S .colours .grayStack) (λ t _. R .represents .colours m .grayStack t),
     R .represents .colours m .grayGlobals,
     ← (R .describes .born),
     count-same (λ x. isAllocated L H x && not (isBlack L H x)) (λ x. S .allocated x && not (black (S .colours) x)) (S .graph .born) same,

@@ -8,8 +8,9 @@ use lib.Dec.{T, eqb}
 use Rattle.marking.specs.Updates.{update}
 use Rattle.marking.proofs.Updates.{added-old, added-new, added-only, test, differ, is-true, and-left, and-right}
 use Rattle.marking.specs.Effect.{asNumber}
-use Rattle.marking.specs.Count.{some, total, count}
-use Rattle.marking.proofs.Count.{total-le, total-lt, count-same}
+use Rattle.model.specs.Bounded.{countBelow}
+use Rattle.marking.specs.Count.{some, count}
+use Rattle.marking.proofs.Count.{below-le, below-lt, count-same}
 use Rattle.marking.proofs.Operations.{State}
 use Rattle.marking.specs.WordHeap.{WordHeap}
 use Rattle.marking.proofs.Represents.{Layout, Live}
@@ -56,8 +57,8 @@ module _ {H : WordHeap} {L : Ledger} {S : State} {Y : Layout} (R : Agrees H L S 
         go (inl u) = omega (arith, R .represents .placed .fits x l)
         go (inr u) = omega (arith, R .represents .placed .fits k m)
 
-    counted : (k : ℕ) → count (S .allocated) k ≤ total (firsts k) n
-    unfolding total firsts First
+    counted : (k : ℕ) → count (S .allocated) k ≤ countBelow n (firsts k)
+    unfolding countBelow firsts First
     counted zero = omega arith
     counted (suc k) = go (some (S .allocated) k) refl (counted k)
       where
@@ -65,22 +66,22 @@ module _ {H : WordHeap} {L : Ledger} {S : State} {Y : Layout} (R : Agrees H L S 
         fresh m (inl t) = let r = first-of k (Y .at k) t in absurd (apart k (r .0) (r .1) (r .2) m (r .3))
         fresh m (inr t) = t
 
-        one : Live (S .allocated) k → total (firsts k) n < total (update (firsts k) (Y .at k) true) n
-        one m = total-lt (firsts k) (update (firsts k) (Y .at k) true) n (Y .at k) (below (Y .at k) (R .represents .placed .on k m))
+        one : Live (S .allocated) k → countBelow n (firsts k) < countBelow n (update (firsts k) (Y .at k) true)
+        one m = below-lt (firsts k) (update (firsts k) (Y .at k) true) n (Y .at k) (below (Y .at k) (R .represents .placed .on k m))
             (fresh m (test (firsts k (Y .at k))))
             (added-new (firsts k) (Y .at k)) (λ w _. added-old (firsts k) (Y .at k) w)
 
-        go : (b : Bool) → some (S .allocated) k ≡ b → count (S .allocated) k ≤ total (firsts k) n →
-            count (S .allocated) k + asNumber b ≤ total (cond b (update (firsts k) (Y .at k) true) (firsts k)) n
+        go : (b : Bool) → some (S .allocated) k ≡ b → count (S .allocated) k ≤ countBelow n (firsts k) →
+            count (S .allocated) k + asNumber b ≤ countBelow n (cond b (update (firsts k) (Y .at k) true) (firsts k))
         go true e h = omega (arith, one (some-live k (is-true _ e)))
         go false e h = omega arith
 
     -- THE TALLY, where the allocated bits stand below word n
-    pub records-bits : count (isAllocated L H) (suc (L .count)) ≤ total (H .allocated) n
+    pub records-bits : count (isAllocated L H) (suc (L .count)) ≤ countBelow n (H .allocated)
     unfolding First
     records-bits = rw
         (← (R .describes .born), count-same (isAllocated L H) (S .allocated) (S .graph .born) (λ x z k. isAllocated-is R x z k))
-        (omega (arith, counted (S .graph .born), total-le (firsts (S .graph .born)) (H .allocated) n (λ w _ t. on w (first-of (S .graph .born) w t))))
+        (omega (arith, counted (S .graph .born), below-le (firsts (S .graph .born)) (H .allocated) n (λ w _ t. on w (first-of (S .graph .born) w t))))
       where
         on : (w : ℕ) → First (S .graph .born) w → T (H .allocated w)
         on w r = rw (← (r .3)) (R .represents .placed .on (r .0) (r .2))

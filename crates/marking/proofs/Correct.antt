@@ -1,9 +1,9 @@
 -- DEMAND 3, proved: after a setup and any list of calls, among them further setups, the claim of the file Claim holds.
-use mathlib.Core.Path.{_≡_, refl, _∙_}
-use mathlib.Core.Bool.{Bool, true, false, not, cond, _&&_}
+use mathlib.Core.Path.{_≡_}
+use mathlib.Core.Bool.{Bool, true, false, not, cond}
 use mathlib.Core.Logic.{inl, inr}
 use mathlib.Core.List.{List}
-use Prim.Native.Nat.{ℕ, suc, _≤_, _<_}
+use Prim.Native.Nat.{ℕ, suc, _+_, _≤_, _<_}
 use native.Mathlib.Omega.{arith}
 use lib.Dec.{T, eqb}
 use Rattle.marking.proofs.Updates.{of-true, of-false, eqb-yes}
@@ -11,7 +11,7 @@ use Rattle.marking.specs.Effect.{inCycle, inMarking, isSweep, asNumber, 
 use Rattle.marking.proofs.Effects.{inCycle-lasting, inMarking-lasting}
 use Rattle.marking.proofs.Operations
 use Rattle.marking.proofs.Operations.{State, perform, performAll}
-use Rattle.marking.specs.WordHeap.{marking, WordHeap}
+use Rattle.marking.specs.WordHeap.{marking, WordHeap, recordIn}
 use Rattle.marking.proofs.Safety.{perform-keeps}
 use Rattle.marking.specs.Count.{count}
 use Rattle.marking.proofs.Count.{count-le}
@@ -19,12 +19,13 @@ use Rattle.marking.proofs.Work.{work-bounded}
 use Rattle.marking.proofs.Cycle.{freed-once, start-born}
 use Rattle.model.specs.Memory.{addressOf, wordOf}
 use Rattle.marking.proofs.Represents.{Layout, Live}
-use Rattle.marking.specs.Ledger.{Ledger, Event, effect, Each, feed, feedAll, empty, Reachable, lastBorn}
+use Rattle.marking.specs.Event.{Event, effect, Each}
+use Rattle.marking.specs.Event
+use Rattle.marking.specs.Ledger.{Ledger, feed, feedAll, empty, word, Reachable, lastBorn}
 use Rattle.marking.specs.Trace.{Step, Steps, setup, start, endCycle, get}
-use Rattle.marking.specs.Trace
 use Rattle.marking.proofs.Agreement.{Agrees}
 use Rattle.marking.proofs.Refinement.{after, agree, phased, step-start, step-endCycle}
-use Rattle.marking.specs.Claim.{Correct, freedIn, subject, given, expected, freedDuring, freedToEnd, freedSince, isAllocated, workIn}
+use Rattle.marking.specs.Claim.{Answers, Correct, freedIn, freedDuring, freedToEnd, freedSince, isAllocated, workIn}
 use Rattle.marking.proofs.Matches.{matches, back, got, at-is}
 use Rattle.marking.proofs.Freed.{Reached, reached, fresh-reached, Within, within, last-is, Tally, isAllocated-is, end-frees}
 
@@ -33,33 +34,12 @@ unfolding perform
 start-marks S = tt
 
 module _ {H : WordHeap} {L : Ledger} {S : State} {Y : Layout} (R : Agrees H L S Y) where
-  answers : {e : Event} {H′ : WordHeap} → Step H e H′ → given (subject e) H′ ≡ expected (subject e) (feed e L)
+  got-word : {s j f : ℕ} {H′ : WordHeap} → Step H (Event.get s j f) H′ → H′ .arena (recordIn H′ s j + f) ≡ word L (L .slot s j) f
+  got-word (get s j f z b c) = got R s j f z b c
+
+  answers : {e : Event} {H′ : WordHeap} → Step H e H′ → Answers e H′ (feed e L)
   unfolding feed
-  answers Trace.refused = refl
-  answers Trace.audit = refl
-  answers (setup H′ F) = refl
-  answers (Trace.openStack s A) = refl
-  answers (Trace.closeStack s A) = refl
-  answers (Trace.allocate s i p n w a E u A o h b c d k m q r v) = matches
-      (after R (Trace.allocate s i p n w a E u A o h b c d k m q r v)) .slots s i
-  answers (Trace.copy s i j A o h) = matches (after R (Trace.copy s i j A o h)) .slots s i
-  answers (Trace.clear s i A o h) = matches (after R (Trace.clear s i A o h)) .slots s i
-  answers (Trace.load s i j f A o h z b) = matches (after R (Trace.load s i j f A o h z b)) .slots s i
-  answers (Trace.loadGlobal s i g A o h) = matches (after R (Trace.loadGlobal s i g A o h)) .slots s i
-  answers (Trace.store s j f k A z b) = refl
-  answers (Trace.put s j f v A z b c) = refl
-  answers (get s j f z b c) = got R s j f z b c
-  answers (Trace.storeGlobal s g i A h) = refl
-  answers (start A p) = refl
-  answers (Trace.scanStack s A p) = refl
-  answers (Trace.rescanStack s p g) = refl
-  answers (Trace.scanGlobals A p) = refl
-  answers (Trace.rescanGlobals p g) = refl
-  answers (Trace.markStep w A p g) = refl
-  answers Trace.noneGray = refl
-  answers (Trace.finish u A p g gg gs h) = refl
-  answers (Trace.sweepStep q E A p d c) = refl
-  answers (endCycle A p h) = refl
+  answers st = record { slots = matches (after R st) .slots; got = λ s j f p. rw p (got-word (rw p at st)) }
 
   -- a cycle: start, calls that neither end it nor break it off, and the sweep step that ends it
   cycle : {H₁ H₂ H₃ : WordHeap} {es : List Event} → Step H Event.start H₁ → (ss : Steps H₁ es H₂) → Each inCycle es →

@@ -1,4 +1,4 @@
--- Laws of counting: fewer pass, as many pass, one more passes.
+-- Laws of counting: fewer pass, as many pass, one more passes; of numbers below a bound (below-..) and of records (count-..).
 use mathlib.Core.Path.{_≡_}
 use mathlib.Core.Bool.{Bool, true, false, not, _&&_}
 use mathlib.Core.Logic.{_⊎_, inl, inr}
@@ -6,45 +6,41 @@ use Prim.Native.Nat.{ℕ, zero, suc, _+_, _≤_, _<_}
 use native.Mathlib.Omega.{arith}
 use lib.Dec.{T, eqb, eqb→eq}
 use Rattle.marking.proofs.Updates.{test, differ, of-true, of-false, and-both, and-left, and-right}
+use Rattle.model.specs.Bounded.{countBelow}
 use Rattle.marking.specs.Effect.{asNumber}
-use Rattle.marking.specs.Count.{total, some, count}
+use Rattle.marking.specs.Count.{some, count}
 
 as-le : (a b : Bool) → (T a → T b) → asNumber a ≤ asNumber b
 as-le true true f = omega arith
 as-le true false f = absurd (f tt)
 as-le false b f = omega arith
 
-pub total-le : (p q : ℕ → Bool) (n : ℕ) → ((x : ℕ) → x < n → T (p x) → T (q x)) → total p n ≤ total q n
-unfolding total
-total-le p q zero h = omega arith
-total-le p q (suc n) h = omega (arith, total-le p q n (λ x k. h x (omega arith)), as-le (p n) (q n) (h n (omega arith)))
+pub below-le : (p q : ℕ → Bool) (n : ℕ) → ((x : ℕ) → x < n → T (p x) → T (q x)) → countBelow n p ≤ countBelow n q
+unfolding countBelow
+below-le p q zero h = omega arith
+below-le p q (suc n) h = omega (arith, below-le p q n (λ x k. h x (omega arith)), as-le (p n) (q n) (h n (omega arith)))
 
-pub total-more : (p : ℕ → Bool) (n k : ℕ) → n ≤ k → total p n ≤ total p k
-unfolding total
-total-more p n zero h = let e : n ≡ 0 = omega arith in rw e (omega arith)
-total-more p n (suc k) h = go (test (eqb n (suc k))) (total-more p n k)
+pub below-more : (p : ℕ → Bool) (n k : ℕ) → n ≤ k → countBelow n p ≤ countBelow k p
+unfolding countBelow
+below-more p n zero h = let e : n ≡ 0 = omega arith in rw e (omega arith)
+below-more p n (suc k) h = go (test (eqb n (suc k))) (below-more p n k)
   where
-    go : (T (eqb n (suc k)) ⊎ T (not (eqb n (suc k)))) → (n ≤ k → total p n ≤ total p k) → total p n ≤ total p (suc k)
+    go : (T (eqb n (suc k)) ⊎ T (not (eqb n (suc k)))) → (n ≤ k → countBelow n p ≤ countBelow k p) → countBelow n p ≤ countBelow (suc k) p
     go (inl e) ih = rw (eqb→eq n (suc k) e) (omega arith)
     go (inr e) ih = omega (arith, ih (omega (arith, differ n (suc k) e)))
 
 -- one more passes
-pub total-lt : (p q : ℕ → Bool) (n x : ℕ) → x < n → T (not (p x)) → T (q x) → ((y : ℕ) → y < n → T (p y) → T (q y)) → total p n < total q n
-unfolding total
-total-lt p q zero x k d e h = absurd (omega arith)
-total-lt p q (suc n) x k d e h = go (test (eqb x n)) (λ l. total-lt p q n x l d e (λ y v. h y (omega arith)))
+pub below-lt : (p q : ℕ → Bool) (n x : ℕ) → x < n → T (not (p x)) → T (q x) → ((y : ℕ) → y < n → T (p y) → T (q y)) → countBelow n p < countBelow n q
+unfolding countBelow
+below-lt p q zero x k d e h = absurd (omega arith)
+below-lt p q (suc n) x k d e h = go (test (eqb x n)) (λ l. below-lt p q n x l d e (λ y v. h y (omega arith)))
   where
     one : (y : ℕ) → y ≡ n → T (not (p y)) → T (q y) → asNumber (p n) < asNumber (q n)
     one y i v w = rw (← i, of-false (p y) v, of-true (q y) w) (omega arith)
 
-    go : (T (eqb x n) ⊎ T (not (eqb x n))) → (x < n → total p n < total q n) → total p (suc n) < total q (suc n)
-    go (inl i) ih = omega (arith, total-le p q n (λ y v. h y (omega arith)), one x (eqb→eq x n i) d e)
+    go : (T (eqb x n) ⊎ T (not (eqb x n))) → (x < n → countBelow n p < countBelow n q) → countBelow (suc n) p < countBelow (suc n) q
+    go (inl i) ih = omega (arith, below-le p q n (λ y v. h y (omega arith)), one x (eqb→eq x n i) d e)
     go (inr i) ih = omega (arith, ih (omega (arith, differ x n i)), as-le (p n) (q n) (h n (omega arith)))
-
-pub total-all : (p : ℕ → Bool) (n : ℕ) → total p n ≤ n
-unfolding total
-total-all p zero = omega arith
-total-all p (suc n) = omega (arith, total-all p n, as-le (p n) true (λ _. tt))
 
 -- the lowest that passes, if any does
 pub find : (p : ℕ → Bool) (n : ℕ) → ((x : ℕ) × (x < n) × T (p x)) ⊎ ((x : ℕ) → x < n → T (not (p x)))
@@ -77,11 +73,11 @@ some-le p q x f t =
     and-both (not (eqb x 0)) (q x) (and-left (not (eqb x 0)) (p x) t) (f (positive x (and-left (not (eqb x 0)) (p x) t)) (and-right (not (eqb x 0)) (p x) t))
 
 pub count-le : (p q : ℕ → Bool) (n : ℕ) → ((x : ℕ) → 0 < x → x < n → T (p x) → T (q x)) → count p n ≤ count q n
-count-le p q n h = total-le (some p) (some q) n (λ x k. some-le p q x (λ z. h x z k))
+count-le p q n h = below-le (some p) (some q) n (λ x k. some-le p q x (λ z. h x z k))
 
 pub count-lt : (p q : ℕ → Bool) (n x : ℕ) → 0 < x → x < n → T (not (p x)) → T (q x) → ((y : ℕ) → 0 < y → y < n → T (p y) → T (q y)) →
     count p n < count q n
-count-lt p q n x z k d e h = total-lt (some p) (some q) n x k (no (not (eqb x 0)) (p x) d) (some-one q x z e)
+count-lt p q n x z k d e h = below-lt (some p) (some q) n x k (no (not (eqb x 0)) (p x) d) (some-one q x z e)
     (λ y l. some-le p q y (λ u. h y u l))
   where
     no : (a b : Bool) → T (not b) → T (not (a && b))
@@ -89,8 +85,5 @@ count-lt p q n x z k d e h = total-lt (some p) (some q) n x k (no (not (eqb x 0)
     no false b t = tt
 
 -- tests that say the same
-pub total-same : (p q : ℕ → Bool) (n : ℕ) → ((x : ℕ) → x < n → p x ≡ q x) → total p n ≡ total q n
-total-same p q n h = omega (arith, total-le p q n (λ x k t. rw (← (h x k)) t), total-le q p n (λ x k t. rw (h x k) t))
-
 pub count-same : (p q : ℕ → Bool) (n : ℕ) → ((x : ℕ) → 0 < x → x < n → p x ≡ q x) → count p n ≡ count q n
 count-same p q n h = omega (arith, count-le p q n (λ x z k t. rw (← (h x z k)) t), count-le q p n (λ x z k t. rw (h x z k) t))

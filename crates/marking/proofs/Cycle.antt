@@ -64,7 +64,7 @@ module _ {n : ℕ} {R : ℕ → Type 0} where
   cycle-keeps (assign t i v) S w p I K = record {
     busy = K .busy;
     since = K .since;
-    closed = closed-setSlot t i v (source-closed (K .closed) (p .0)) (K .closed);
+    closed = closed-setSlot t i _ (source-closed (K .closed) t v) (K .closed);
     marks = K .marks;
     keeps = K .keeps;
   }

@@ -20,7 +20,9 @@ use Rattle.marking.proofs.Safety.{perform-keeps, finish-closed}
 use Rattle.marking.proofs.Cycle.{sweeping, freed-one, freed-none, cycle-finish}
 use Rattle.marking.proofs.Work.{darkens}
 use Rattle.marking.proofs.Represents.{Layout, Live}
-use Rattle.marking.specs.Ledger.{Ledger, Event, effect, Each, feed, feedAll, empty}
+use Rattle.marking.specs.Event.{Source, Event, effect, Each}
+use Rattle.marking.specs.Event
+use Rattle.marking.specs.Ledger.{Ledger, feed, feedAll, empty}
 use Rattle.marking.specs.Trace
 use Rattle.marking.specs.Trace.{Step, Steps, ready, more}
 use Rattle.marking.specs.Claim.{isAllocated, workIn, freedDuring, freedToEnd}
@@ -103,7 +105,7 @@ module _ {K : ℕ → Type 0} {H : WordHeap} {L : Ledger} {S : State} {Y : Layou
   idles : {H′ : WordHeap} {L′ : Ledger} → Becomes Operations.idle H′ L′ S → Kept (With K (λ x. ⊥)) H′ L′
   idles B = keeps tt B (save-idle (λ x. ⊥) nothing (λ x a. absurd a))
 
-  assigns : {t i v : ℕ} {H′ : WordHeap} {L′ : Ledger} → Becomes (Operations.assign t i v) H′ L′ S → Kept (With K (λ x. ⊥)) H′ L′
+  assigns : {t i : ℕ} {v : Source} {H′ : WordHeap} {L′ : Ledger} → Becomes (Operations.assign t i v) H′ L′ S → Kept (With K (λ x. ⊥)) H′ L′
   unfolding perform setSlot
   assigns {t} {i} {v} B = keeps tt B (save-plain S Z nothing (perform (Operations.assign t i v) S) refl refl (λ x a. absurd a))
 
@@ -195,21 +197,16 @@ module _ {K : ℕ → Type 0} {H : WordHeap} {L : Ledger} {S : State} {Y : Layou
   -- EVERY CALL in the mark phase saves what it is said to save
   saves : {e : Event} {H′ : WordHeap} → Step H e H′ → T (inMarking (effect e)) → Kept (With K (Saves e L)) H′ (feed e L)
   unfolding feed
-  saves Trace.refused w = idles (Refinement.step-idle R)
-  saves Trace.audit w = idles (Refinement.step-idle R)
+  saves Trace.nothing w = idles (Refinement.step-idle R)
   saves (Trace.setup H′ F) w = absurd w
-  saves (Trace.openStack s A) w = resets (Refinement.step-resetStack R s true A)
-  saves (Trace.closeStack s A) w = resets (Refinement.step-resetStack R s false A)
-  saves (Trace.allocate s i p n v ar E u A o h a b c d e f g j) w = births
-      (Refinement.step-allocate R s i p n v ar E u A o h a b c d e f g j)
-  saves (Trace.copy s i j A o h) w = assigns (Refinement.step-copy R s i j A o h)
-  saves (Trace.clear s i A o h) w = assigns (Refinement.step-clear R s i A o h)
-  saves (Trace.load s i j f A o h z b) w = assigns (Refinement.step-load R s i j f A o h z b)
-  saves (Trace.loadGlobal s i g A o h) w = assigns (Refinement.step-loadGlobal R s i g A o h)
+  saves (Trace.resetStack s b A) w = resets (Refinement.step-resetStack R s b A)
+  saves (Trace.assign s i v A o h t) w = assigns (Refinement.step-assign R s i v A o h t)
   saves (Trace.store s j f k A z b) w =
       stores (R .describes .pointer (S .graph .slot s j) f (slot-record R s j z .0 .0) ∙ ap (λ (n : ℕ). L .pointer n f) (R .describes .slot s j)) (R .describes .slot s k) (Refinement.step-store R s j f k A z b)
   saves (Trace.storeGlobal s g i A h) w = stores (R .describes .global g) (R .describes .slot s i) (Refinement.step-storeGlobal R s g i A h)
   saves (Trace.put s j f v A z b c) w = idles (Refinement.step-put R s j f v A z b c)
+  saves (Trace.allocate s i p n v ar E u A o h a b c d e f g j) w = births
+      (Refinement.step-allocate R s i p n v ar E u A o h a b c d e f g j)
   saves (Trace.get s j f z b c) w = idles (Refinement.step-idle R)
   saves (Trace.start A p) w = absurd w
   saves (Trace.scanStack s A p) w = scans (Refinement.step-scanStack R s A p)
@@ -217,7 +214,6 @@ module _ {K : ℕ → Type 0} {H : WordHeap} {L : Ledger} {S : State} {Y : Layou
   saves (Trace.scanGlobals A p) w = scansGlobals (Refinement.step-scanGlobals R A p)
   saves (Trace.rescanGlobals p g) w = rescansGlobals
   saves (Trace.markStep v A p g) w = takes (Refinement.step-markStep R v A p g .1)
-  saves Trace.noneGray w = idles (Refinement.step-idle R)
   saves (Trace.finish u A p g gg gs h) w = absurd w
   saves (Trace.sweepStep q E A p d c) w = absurd w
   saves (Trace.endCycle A p h) w = absurd w

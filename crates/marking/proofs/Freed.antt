@@ -1,21 +1,24 @@
 -- What the heap and the ledger show of freeing is what the abstract heap frees; and a record that is born was freed once since the last
 -- setup, or is allocated.
 use mathlib.Core.Path.{_≡_, refl, sym, _∙_}
-use mathlib.Core.Bool.{Bool, true, false, not, cond, _&&_}
+use mathlib.Core.Bool.{Bool, true, false, not, cond, _&&_, and-true, and-false, and-not-self}
 use mathlib.Core.Logic.{_⊎_, inl, inr, _≢_}
 use mathlib.Core.List.{List, [], _∷_}
 use Prim.Native.Nat.{ℕ, zero, suc, _+_, _≤_, _<_}
 use native.Mathlib.Omega.{arith}
 use lib.Dec.{T, eqb, ltb, eqb→eq, nltb→le, ltb→lt}
 use Rattle.marking.proofs.Updates.{test, clash, of-true, of-false, differ, and-left, and-right, eqb-no, eqb-yes}
-use Rattle.marking.specs.Effect.{Effect, lasting, turnedOff, asNumber, work}
+use Rattle.marking.specs.Effect.{Effect, setsUp, _is_, lasting, isSweep, turnedOff, asNumber, work}
+use Rattle.marking.proofs.Effects.{sweep-lasting}
 use Rattle.marking.proofs.Operations.{State, Operation, perform, performAll, initial, AllAllowed, operationEffect, EachOperation, freedBy, freedByAll}
 use Rattle.marking.proofs.Cycle.{Counted, Fate, anew, goes-on, fate, counted}
 use Rattle.marking.proofs.Work.{works}
 use Rattle.marking.specs.WordHeap.{WordHeap, heapEndCycle}
 use Rattle.model.specs.Memory.{wordOf}
 use Rattle.marking.proofs.Represents.{Layout, Live}
-use Rattle.marking.specs.Ledger.{Ledger, Event, effect, Each, feed, feedAll, empty, lastOf, lastBorn}
+use Rattle.marking.specs.Event.{Event, effect, Each}
+use Rattle.marking.specs.Event
+use Rattle.marking.specs.Ledger.{Ledger, feed, feedAll, empty, lastOf, lastBorn}
 use Rattle.marking.specs.Trace.{Fresh, Step, Steps, ready, more, endCycle}
 use Rattle.marking.proofs.Agreement.{Agrees, noLayout, fresh-agrees}
 use Rattle.marking.proofs.Refinement.{abstract-step, after}
@@ -69,57 +72,38 @@ module _ {H : WordHeap} {L : Ledger} {S : State} {Y : Layout} (R : Agrees H L S 
           (find m (R .represents .placed .only (Y .at x) (rw (at-born R x h k) at (and-left (H .allocated (wordOf (L .address x))) _ m)))) a
       go (inr a) (inr m) = rw (of-false (isAllocated L H x) m, of-false (S .allocated x) a)
 
-cond-same : (b : Bool) → cond b 0 0 ≡ (0 + 0)
-cond-same true = refl
-cond-same false = refl
+-- what a call frees, by what is allocated before and after it
+freedIn-is : (x : ℕ) (L : Ledger) (H : WordHeap) (e : Event) (H′ : WordHeap) →
+    freedIn x L H e H′ ≡ turnedOff (effect e) (isAllocated L H x) (isAllocated L H′ x)
+unfolding freedIn
+freedIn-is x L H e H′ = go (isSweep (effect e)) (eqb (lastBorn L (L .address x)) x) (H .allocated (wordOf (L .address x))) (H′ .allocated (wordOf (L .address x)))
+  where
+    go : (s l a a′ : Bool) → cond l (asNumber (s && a && not a′)) 0 ≡ asNumber (s && (a && l) && not (a′ && l))
+    go s true a a′ = simp and-true
+    go s false a a′ = simp and-false
 
-turn : (l a a′ : Bool) → cond l (asNumber (a && not a′)) 0 ≡ asNumber ((a && l) && not (a′ && l))
-turn true true true = refl
-turn true true false = refl
-turn true false a′ = refl
-turn false true true = refl
-turn false true false = refl
-turn false false a′ = refl
+-- a sweep step leaves the ledger alone, so that it may be taken after the call
+swept-ledger : (e : Event) (L : Ledger) → T (isSweep (effect e)) → feed e L ≡ L
+unfolding feed
+swept-ledger (Event.writes w) L t = absurd t
+swept-ledger (Event.get s j f) L t = absurd t
+swept-ledger (Event.scanStack s) L t = absurd t
+swept-ledger Event.scanGlobals L t = absurd t
+swept-ledger (Event.does c) L t = rw (of-false (c is setsUp) (sweep-lasting c t))
 
-module _ (x : ℕ) (L : Ledger) (H H′ : WordHeap) where
-  abbrev last : Bool
-  last = eqb (lastBorn L (L .address x)) x
-
-  -- what a call frees, by what was and is allocated
-  shown : (e : Event) {u u′ : Bool} → isAllocated L H x ≡ u → isAllocated (feed e L) H′ x ≡ u′ → freedIn x L H e H′ ≡ turnedOff (effect e) u u′
-  unfolding feed freedIn
-  shown Event.refused p q = cond-same last
-  shown Event.setup p q = cond-same last
-  shown Event.audit p q = cond-same last
-  shown (Event.openStack s) p q = cond-same last
-  shown (Event.closeStack s) p q = cond-same last
-  shown (Event.allocate s i c n a) p q = cond-same last
-  shown (Event.copy s i j) p q = cond-same last
-  shown (Event.clear s i) p q = cond-same last
-  shown (Event.load s i j f) p q = cond-same last
-  shown (Event.store s j f k) p q = cond-same last
-  shown (Event.put s j f v) p q = cond-same last
-  shown (Event.get s j f) p q = cond-same last
-  shown (Event.loadGlobal s i g) p q = cond-same last
-  shown (Event.storeGlobal s g i) p q = cond-same last
-  shown Event.start p q = cond-same last
-  shown (Event.scanStack s) p q = cond-same last
-  shown Event.scanGlobals p q = cond-same last
-  shown Event.markStep p q = cond-same last
-  shown Event.noneGray p q = cond-same last
-  shown Event.finish p q = cond-same last
-  shown Event.sweepStep p q = rw (← p, ← q) (turn last (H .allocated (wordOf (L .address x))) (H′ .allocated (wordOf (L .address x))))
-  shown Event.endCycle p q = rw (← p, ← q) (turn last (H .allocated (wordOf (L .address x))) (H′ .allocated (wordOf (L .address x))))
+shown : (x : ℕ) (L : Ledger) (H : WordHeap) (e : Event) (H′ : WordHeap) →
+    freedIn x L H e H′ ≡ turnedOff (effect e) (isAllocated L H x) (isAllocated (feed e L) H′ x)
+shown x L H e H′ = freedIn-is x L H e H′ ∙ go (test (isSweep (effect e)))
+  where
+    go : (T (isSweep (effect e)) ⊎ T (not (isSweep (effect e)))) →
+        turnedOff (effect e) (isAllocated L H x) (isAllocated L H′ x) ≡ turnedOff (effect e) (isAllocated L H x) (isAllocated (feed e L) H′ x)
+    go (inl t) = rw (swept-ledger e L t)
+    go (inr t) = rw (of-false (isSweep (effect e)) t)
 
 -- the sweep step that ends a cycle turns no allocated bit off
 pub end-frees : {H H′ : WordHeap} (x : ℕ) (L : Ledger) → Step H Event.endCycle H′ → freedIn x L H Event.endCycle H′ ≡ 0
-unfolding freedIn heapEndCycle
-end-frees {H} x L (endCycle A p h) = go (eqb (lastBorn L (L .address x)) x) (H .allocated (wordOf (L .address x)))
-  where
-    go : (l a : Bool) → cond l (asNumber (a && not a)) 0 ≡ 0
-    go true true = refl
-    go true false = refl
-    go false a = refl
+unfolding heapEndCycle
+end-frees {H} x L (endCycle A p h) = freedIn-is x L H Event.endCycle (heapEndCycle H) ∙ simp and-not-self
 
 unborn-freedIn : (x : ℕ) (L : Ledger) (H : WordHeap) (e : Event) (H′ : WordHeap) → L .count < x → freedIn x L H e H′ ≡ 0
 unfolding freedIn
@@ -140,8 +124,8 @@ module _ {H : WordHeap} {L : Ledger} {S : State} {Y : Layout} (R : Agrees H L S 
   counts o = counted c S (lasting-too o) (R .invariant)
 
   pub step-frees : (x : ℕ) → 0 < x → x < S .graph .born → T (lasting (effect e)) → freedIn x L H e H′ ≡ freedBy x c S
-  step-frees x h k o = rw ((abstract-step R s) .effect)
-      (shown x L H H′ e (isAllocated-is R x h k) (isAllocated-is (after R s) x h (omega (arith, counts o .grows))))
+  step-frees x h k o = rw ((abstract-step R s) .effect, ← (isAllocated-is R x h k), ← (isAllocated-is (after R s) x h (omega (arith, counts o .grows))))
+      (shown x L H e H′)
 
   tally-step : (x n : ℕ) → 0 < x → Tally x n S → Tally x (cond (lasting (effect e)) (n + freedIn x L H e H′) 0) (perform c S)
   tally-step x n h t = go (fate c S (R .invariant))

@@ -8,6 +8,7 @@ use lib.Dec.{T, eqb}
 use Rattle.marking.specs.Updates.{update}
 use Rattle.marking.specs.WordHeap.{Phase, off, mark, sweep, marking}
 use Rattle.marking.specs.Effect.{Effect, none, setsUp, starts, works, finishes, sweeps, ends, turnedOff}
+use Rattle.marking.specs.Event.{Source}
 use Rattle.model.specs.Memory.{slotCount, globalCount}
 use Rattle.marking.proofs.Graph.{Graph, setSlot, setField, emptyStack, birth}
 use Rattle.marking.proofs.Colours.{Colours, Marked, shade, shadeAll, ungray, setGrayStack, blacken}
@@ -26,16 +27,18 @@ pub data Held (G : Graph) (t : ℕ) : ℕ → Type 0 where
   nil : Held G t 0
   slot : (j : ℕ) → Held G t (G .slot t j)
 
--- what a call may put in a slot: nil (clear), a slot (copy), a field of what is in a slot or of the globals (load)
-pub data Source (G : Graph) (t : ℕ) : ℕ → Type 0 where
-  held : {x : ℕ} → Held G t x → Source G t x
-  field : {x : ℕ} → Held G t x → (f : ℕ) → Source G t (G .field x f)
+-- what a source of stack t holds
+abbrev pub graphSource : Graph → ℕ → Source → ℕ
+graphSource G t Source.nil = 0
+graphSource G t (Source.slot j) = G .slot t j
+graphSource G t (Source.pointer j f) = G .field (G .slot t j) f
+graphSource G t (Source.global g) = G .field 0 g
 
--- idle: a call that changes nothing here. assign: slot i of stack t becomes v. store: field f of node x becomes v. resetStack: stack t is opened (b
+-- idle: a call that changes nothing here. assign: slot i of stack t becomes what v holds. store: field f of node x becomes v. resetStack: stack t is opened (b
 -- true) or closed. allocate: a record of p pointer fields is born into a slot. sweepStep: the records of q are swept
 pub data Operation : Type 0 where
   idle setup : Operation
-  assign : (t i v : ℕ) → Operation
+  assign : (t i : ℕ) (v : Source) → Operation
   store : (t x f v : ℕ) → Operation
   resetStack : (t : ℕ) (b : Bool) → Operation
   allocate : (t i p : ℕ) → Operation
@@ -48,7 +51,7 @@ pub data Operation : Type 0 where
 abbrev pub Allowed : Operation → State → Type 0
 Allowed idle S = Unit {0}
 Allowed setup S = Unit {0}
-Allowed (assign t i v) S = Source (S .graph) t v × (i < slotCount) × T (S .graph .opened t)
+Allowed (assign t i v) S = (i < slotCount) × T (S .graph .opened t)
 Allowed (store t x f v) S = Held (S .graph) t x × Held (S .graph) t v × (f < S .graph .pointers x)
 Allowed (resetStack t b) S = Unit {0}
 Allowed (allocate t i p) S = (i < slotCount) × T (S .graph .opened t)
@@ -102,7 +105,7 @@ markAt x S = recoloured (S .phase) (shadeAll (S .graph) (S .graph .field x) (S .
 unfoldable pub perform : Operation → State → State
 perform idle S = S
 perform setup S = initial
-perform (assign t i v) S = withGraph (setSlot t i v (S .graph)) S
+perform (assign t i v) S = withGraph (setSlot t i (graphSource (S .graph) t v) (S .graph)) S
 perform (store t x f v) S = withGraph (setField x f v (S .graph)) (recoloured (S .phase) (barrier S (S .graph .field x f) v) S)
 perform (resetStack t b) S = withGraph (emptyStack t b (S .graph)) (recoloured (S .phase) (setGrayStack t false (S .colours)) S)
 perform (allocate t i p) S = record {

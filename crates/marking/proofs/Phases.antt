@@ -7,8 +7,9 @@ use lib.Dec.{T}
 use Rattle.marking.specs.Effect.{inCycle, inMarking}
 use Rattle.marking.specs.WordHeap.{mark, sweep, WordHeap, heapAssign, heapStore, heapStoreGlobal, heapPut, heapResetStack, heapStart, heapScanStack, heapScanGlobals, heapMarkStep, heapAllocate}
 use Rattle.marking.proofs.Safety.{is-mark}
-use Rattle.marking.specs.Ledger.{Event, effect, Each}
-use Rattle.marking.specs.Trace.{Step, refused, audit, setup, openStack, closeStack, copy, clear, load, loadGlobal, store, put, get, storeGlobal, allocate, start, scanStack, rescanStack, scanGlobals, rescanGlobals, markStep, noneGray, finish, sweepStep, endCycle, Steps, ready, more}
+use Rattle.marking.specs.Event.{Event, effect, Each}
+use Rattle.marking.specs.Event
+use Rattle.marking.specs.Trace.{Step, nothing, setup, resetStack, assign, store, storeGlobal, put, allocate, get, start, scanStack, rescanStack, scanGlobals, rescanGlobals, markStep, finish, sweepStep, endCycle, Steps, ready, more}
 
 pub start-marks : {H H′ : WordHeap} → Step H Event.start H′ → H′ .phase ≡ mark
 unfolding heapStart
@@ -21,19 +22,14 @@ end-swept (endCycle A p h) = p
 pub marking-goes : {H H′ : WordHeap} {e : Event} → Step H e H′ → H .phase ≡ mark → T (inCycle (effect e)) →
     (T (inMarking (effect e)) × (H′ .phase ≡ mark)) ⊎ (e ≡ Event.finish)
 unfolding heapAssign heapStore heapStoreGlobal heapPut heapResetStack heapScanStack heapScanGlobals heapMarkStep heapAllocate
-marking-goes refused p w = inl (tt, p)
-marking-goes audit p w = inl (tt, p)
+marking-goes nothing p w = inl (tt, p)
 marking-goes (setup H′ F) p w = absurd w
-marking-goes (openStack s A) p w = inl (tt, p)
-marking-goes (closeStack s A) p w = inl (tt, p)
-marking-goes (allocate s i c n v ar E u A o h a b d k m f g j) p w = inl (tt, p)
-marking-goes (copy s i j A o h) p w = inl (tt, p)
-marking-goes (clear s i A o h) p w = inl (tt, p)
-marking-goes (load s i j f A o h z b) p w = inl (tt, p)
-marking-goes (loadGlobal s i g A o h) p w = inl (tt, p)
+marking-goes (resetStack s b A) p w = inl (tt, p)
+marking-goes (assign s i v A o h t) p w = inl (tt, p)
 marking-goes (store s j f k A z b) p w = inl (tt, p)
 marking-goes (storeGlobal s g i A h) p w = inl (tt, p)
 marking-goes (put s j f v A z b c) p w = inl (tt, p)
+marking-goes (allocate s i c n v ar E u A o h a b d k m f g j) p w = inl (tt, p)
 marking-goes (get s j f z b c) p w = inl (tt, p)
 marking-goes (start A q) p w = absurd (rw q at (is-mark p))
 marking-goes (scanStack s A q) p w = inl (tt, p)
@@ -41,7 +37,6 @@ marking-goes (rescanStack s q g) p w = inl (tt, p)
 marking-goes (scanGlobals A q) p w = inl (tt, p)
 marking-goes (rescanGlobals q g) p w = inl (tt, p)
 marking-goes (markStep v A q g) p w = inl (tt, p)
-marking-goes noneGray p w = inl (tt, p)
 marking-goes (finish u A q g gg gs h) p w = inr refl
 marking-goes (sweepStep q E A r d c) p w = absurd (rw r at (is-mark p))
 marking-goes (endCycle A q h) p w = absurd w

@@ -18,8 +18,10 @@ use Rattle.marking.proofs.Colours.{Colours, Marked, hasPointers, shade,
 use Rattle.marking.proofs.Operations.{State, Operation, finish, endCycle, scanStack, scanGlobals, markStep, sweepStep, Allowed, perform, markAt, performAll, AllAllowed}
 use Rattle.marking.specs.WordHeap.{mark, sweep, marking}
 use Rattle.marking.proofs.Safety.{Invariant, perform-keeps}
-use Rattle.marking.specs.Count.{total, count}
-use Rattle.marking.proofs.Count.{count-le, count-lt, total-lt, total-all, find}
+use Rattle.model.specs.Bounded.{countBelow}
+use Rattle.model.proofs.Bounded
+use Rattle.marking.specs.Count.{count}
+use Rattle.marking.proofs.Count.{count-le, count-lt, below-lt, find}
 use Rattle.marking.proofs.Work.{black, darkens, marked-black}
 
 -- what marking has still to do, where no stack from n on is gray
@@ -27,12 +29,12 @@ abbrev pub whites : State → ℕ
 whites S = count (λ x. S .allocated x && not (black (S .colours) x)) (S .graph .born)
 
 abbrev pub left : ℕ → State → ℕ
-left n S = total (S .colours .grayStack) n + asNumber (S .colours .gray 0) + whites S
+left n S = countBelow n (S .colours .grayStack) + asNumber (S .colours .gray 0) + whites S
 
 pub left-bound : (n : ℕ) (S : State) → left n S ≤ n + 1 + count (S .allocated) (S .graph .born)
 left-bound n S = omega (
   arith,
-  total-all (S .colours .grayStack) n,
+  Bounded.count-le n (S .colours .grayStack),
   one (S .colours .gray 0),
   count-le (λ x. S .allocated x && not (black (S .colours) x)) (S .allocated) (S .graph .born) (λ x _ _ t. and-left (S .allocated x) _ t),
 )
@@ -91,9 +93,9 @@ module _ (S : State) (I : Invariant S) (p : S .phase ≡ mark) where
       globals : (perform (scanStack t) S) .colours .gray 0 ≡ S .colours .gray 0
       globals = shadeAll-nil (S .graph) (S .graph .slot t) slotCount (S .colours) (I .tricolour m .nil)
 
-      stacks : total ((perform (scanStack t) S) .colours .grayStack) n < total (S .colours .grayStack) n
+      stacks : countBelow n ((perform (scanStack t) S) .colours .grayStack) < countBelow n (S .colours .grayStack)
       stacks = rw (shadeAll-grayStack (S .graph) (S .graph .slot t) slotCount (S .colours))
-          (total-lt (update (S .colours .grayStack) t false) (S .colours .grayStack) n t h (rw (update-same (S .colours .grayStack) t false) tt) g
+          (below-lt (update (S .colours .grayStack) t false) (S .colours .grayStack) n t h (rw (update-same (S .colours .grayStack) t false) tt) g
           (λ u k. update-case (λ (b : Bool). T b → T (S .colours .grayStack u)) (S .colours .grayStack) t false u (λ _ a. absurd a) (λ a. a)))
 
   -- the globals after a marking at x, and the gray stacks

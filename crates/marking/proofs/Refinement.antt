@@ -11,15 +11,16 @@ use Rattle.marking.proofs.Updates.{update-other, update-is, added-only,
 use Rattle.model.specs.Memory.{slotCount, globalCount, addressOf}
 use Rattle.marking.proofs.Graph.{setSlot, setField, emptyStack, birth}
 use Rattle.marking.proofs.Operations
-use Rattle.marking.proofs.Operations.{State, Operation, Held, Source, Allowed, perform, markAt, operationEffect}
-use Rattle.marking.specs.WordHeap.{Phase, off, mark, sweep, marking, WordHeap, LegalColours, Elements, Alike, heapAssign, heapStore, heapStoreGlobal, heapPut, heapResetStack, heapStart, heapScanStack, heapScanGlobals, heapMarkStep, heapFinish, heapSweep, heapEndCycle, heapAllocate, named}
+use Rattle.marking.proofs.Operations.{State, graphSource, Operation, Held, Allowed, perform, markAt, operationEffect}
+use Rattle.marking.specs.WordHeap.{Phase, off, mark, sweep, marking, WordHeap, LegalColours, Elements, Alike, recordIn, heapSource, HasSource, heapAssign, heapStore, heapStoreGlobal, heapPut, heapResetStack, heapStart, heapScanStack, heapScanGlobals, heapMarkStep, heapFinish, heapSweep, heapEndCycle, heapAllocate}
 use Rattle.marking.proofs.Safety.{perform-keeps}
 use Rattle.marking.proofs.Represents.{Layout, address, Live, Represents, address-nil, word-address}
 use Rattle.marking.proofs.Simulation
 use Rattle.marking.proofs.Simulation.{nil-or-live}
 use Rattle.marking.proofs.Birth.{placeRecord, represents-allocate}
-use Rattle.marking.specs.Ledger.{Ledger, Event, effect, feed, empty, withSlot, withStack, withPointer, withGlobal, withNumber, withRecord}
-use Rattle.marking.specs.Trace.{Step, Fresh, refused, audit, setup, openStack, closeStack, copy, clear, load, loadGlobal, store, put, get, storeGlobal, allocate, start, scanStack, rescanStack, scanGlobals, rescanGlobals, markStep, noneGray, finish, sweepStep, endCycle}
+use Rattle.marking.specs.Event.{Source, Event, effect}
+use Rattle.marking.specs.Ledger.{Ledger, source, feed, empty, withSlot, withStack, withPointer, withGlobal, withNumber, withRecord}
+use Rattle.marking.specs.Trace.{Step, Fresh, nothing, setup, resetStack, assign, store, storeGlobal, put, allocate, get, start, scanStack, rescanStack, scanGlobals, rescanGlobals, markStep, finish, sweepStep, endCycle}
 use Rattle.marking.proofs.Agreement.{Describes, LastThere, Agrees, noLayout, no-live, fresh-represents, empty-describes, describes-slot, describes-field, describes-global, describes-number, describes-stack, describes-birth}
 
 -- the heap H and the ledger L are as the call c leaves the state S
@@ -38,51 +39,38 @@ pub record AbstractStep (e : Event) (H : WordHeap) (L : Ledger) (S : State) : Ty
 
 module _ {H : WordHeap} {L : Ledger} {S : State} {Y : Layout} (R : Agrees H L S Y) where
   pub slot-record : (s j : ℕ) → 0 < H .slots s j →
-      Live (S .allocated) (S .graph .slot s j) × (named (H .elements) (H .slots s j) ≡ Y .at (S .graph .slot s j))
+      Live (S .allocated) (S .graph .slot s j) × (recordIn H s j ≡ Y .at (S .graph .slot s j))
   slot-record s j h = go (nil-or-live (R .invariant) (S .graph .slot s j) (R .invariant .keptClosed .root s j))
     where
       go : ((S .graph .slot s j ≡ 0) ⊎ Live (S .allocated) (S .graph .slot s j)) →
-          Live (S .allocated) (S .graph .slot s j) × (named (H .elements) (H .slots s j) ≡ Y .at (S .graph .slot s j))
+          Live (S .allocated) (S .graph .slot s j) × (recordIn H s j ≡ Y .at (S .graph .slot s j))
       go (inl e) = absurd (omega (arith, rw (e, address-nil Y) at (R .represents .words .slot s j)))
       go (inr l) = (l, rw (R .represents .words .slot s j) (word-address Y (S .graph .slot s j) (l .0)))
 
   opened-too : (s : ℕ) → T (H .opened s) → T (S .graph .opened s)
   opened-too s o = rw (R .represents .opened s) at o
 
-  step-assign : (A : LegalColours H) (s i v : ℕ) → Source (S .graph) s v → T (H .opened s) → i < slotCount →
-      Becomes (Operations.assign s i v) (heapAssign s i (address Y v) H) (withSlot s i v L) S
+  -- what a source holds: in the heap, in the graph, and in the ledger
+  sources : (s : ℕ) (v : Source) → HasSource H s v →
+      (heapSource H s v ≡ address Y (graphSource (S .graph) s v)) × (graphSource (S .graph) s v ≡ source L s v)
+  sources s Source.nil t = (sym (address-nil Y), refl)
+  sources s (Source.slot j) t = (R .represents .words .slot s j, R .describes .slot s j)
+  sources s (Source.pointer j f) t =
+      let r = slot-record s j (t .0) in
+      let b = rw (r .1, R .represents .placed .pointers (S .graph .slot s j) (r .0)) at (t .1) in
+      (rw (heapSource, r .1) (R .represents .words .pointer (S .graph .slot s j) f (r .0) b), rw (source, ← (R .describes .slot s j)) (R .describes .pointer (S .graph .slot s j) f (r .0 .0)))
+  sources s (Source.global g) t = (R .represents .words .global g, R .describes .global g)
+
+  pub step-assign : (s i : ℕ) (v : Source) → LegalColours H → T (H .opened s) → i < slotCount → HasSource H s v →
+      Becomes (Operations.assign s i v) (heapAssign s i (heapSource H s v) H) (withSlot s i (source L s v) L) S
   unfolding perform setSlot withSlot
-  step-assign A s i v c o h = record {
+  step-assign s i v A o h t = rw (sources s v t .0, ← (sources s v t .1)) (record {
     layout = Y;
-    allowed = (c, h, opened-too s o);
+    allowed = (h, opened-too s o);
     represents = Simulation.represents-assign A (R .invariant) (R .represents) s i v;
-    describes = describes-slot (R .describes) s i v;
+    describes = describes-slot (R .describes) s i (graphSource (S .graph) s v);
     last = R .last;
-  }
-
-  pub step-copy : (s i j : ℕ) → LegalColours H → T (H .opened s) → i < slotCount →
-      Becomes (Operations.assign s i (S .graph .slot s j)) (heapAssign s i (H .slots s j) H) (withSlot s i (L .slot s j) L) S
-  step-copy s i j A o h = rw (← (R .describes .slot s j), R .represents .words .slot s j)
-      (step-assign A s i (S .graph .slot s j) (Operations.held (Operations.slot j)) o h)
-
-  pub step-clear : (s i : ℕ) → LegalColours H → T (H .opened s) → i < slotCount →
-      Becomes (Operations.assign s i 0) (heapAssign s i 0 H) (withSlot s i 0 L) S
-  step-clear s i A o h = subst (λ (a : ℕ). Becomes (Operations.assign s i 0) (heapAssign s i a H) (withSlot s i 0 L) S) (address-nil Y)
-      (step-assign A s i 0 (Operations.held Operations.nil) o h)
-
-  pub step-loadGlobal : (s i g : ℕ) → LegalColours H → T (H .opened s) → i < slotCount →
-      Becomes (Operations.assign s i (S .graph .field 0 g)) (heapAssign s i (H .globals g) H) (withSlot s i (L .global g) L) S
-  step-loadGlobal s i g A o h = rw (← (R .describes .global g), R .represents .words .global g)
-      (step-assign A s i (S .graph .field 0 g) (Operations.field Operations.nil g) o h)
-
-  pub step-load : (s i j f : ℕ) → LegalColours H → T (H .opened s) → i < slotCount → 0 < H .slots s j →
-      f < H .elements .pointers (named (H .elements) (H .slots s j)) →
-      Becomes (Operations.assign s i (S .graph .field (S .graph .slot s j) f)) (heapAssign s i (H .arena (named (H .elements) (H .slots s j) + f)) H) (withSlot s i (L .pointer (L .slot s j) f) L) S
-  step-load s i j f A o h z b =
-      let r = slot-record s j z in
-      let b′ = rw (r .1, R .represents .placed .pointers (S .graph .slot s j) (r .0)) at b in
-      rw (← (R .describes .slot s j), ← (R .describes .pointer (S .graph .slot s j) f (r .0 .0)), r .1, R .represents .words .pointer (S .graph .slot s j) f (r .0) b′)
-      (step-assign A s i (S .graph .field (S .graph .slot s j) f) (Operations.field (Operations.slot j) f) o h)
+  })
 
   step-store-at : (s x f v : ℕ) → LegalColours H → Held (S .graph) s x → Held (S .graph) s v → Live (S .allocated) x → f < S .graph .pointers x →
       T (S .kept x) → T (S .kept v) →
@@ -96,8 +84,8 @@ module _ {H : WordHeap} {L : Ledger} {S : State} {Y : Layout} (R : Agrees H L S 
     last = R .last;
   }
 
-  pub step-store : (s j f k : ℕ) → LegalColours H → 0 < H .slots s j → f < H .elements .pointers (named (H .elements) (H .slots s j)) →
-      Becomes (Operations.store s (S .graph .slot s j) f (S .graph .slot s k)) (heapStore (named (H .elements) (H .slots s j) + f) (H .slots s k) H) (withPointer (L .slot s j) f (L .slot s k) L) S
+  pub step-store : (s j f k : ℕ) → LegalColours H → 0 < H .slots s j → f < H .elements .pointers (recordIn H s j) →
+      Becomes (Operations.store s (S .graph .slot s j) f (S .graph .slot s k)) (heapStore (recordIn H s j + f) (H .slots s k) H) (withPointer (L .slot s j) f (L .slot s k) L) S
   step-store s j f k A z b =
       let r = slot-record s j z in
       let b′ = rw (r .1, R .represents .placed .pointers (S .graph .slot s j) (r .0)) at b in
@@ -115,9 +103,9 @@ module _ {H : WordHeap} {L : Ledger} {S : State} {Y : Layout} (R : Agrees H L S 
     last = R .last;
   }
 
-  pub step-put : (s j f v : ℕ) → LegalColours H → 0 < H .slots s j → H .elements .pointers (named (H .elements) (H .slots s j)) ≤ f →
-      f < H .elements .words (named (H .elements) (H .slots s j)) →
-      Becomes Operations.idle (heapPut (named (H .elements) (H .slots s j) + f) v H) (withNumber (L .slot s j) f v L) S
+  pub step-put : (s j f v : ℕ) → LegalColours H → 0 < H .slots s j → H .elements .pointers (recordIn H s j) ≤ f →
+      f < H .elements .words (recordIn H s j) →
+      Becomes Operations.idle (heapPut (recordIn H s j + f) v H) (withNumber (L .slot s j) f v L) S
   step-put s j f v A z b c =
       let r = slot-record s j z in
       let b′ = rw (r .1, R .represents .placed .pointers (S .graph .slot s j) (r .0)) at b in
@@ -319,19 +307,14 @@ module _ {H : WordHeap} {L : Ledger} {S : State} {Y : Layout} (R : Agrees H L S 
   -- EVERY CALL on the heap is a call of the abstract heap and of the ledger
   pub abstract-step : {e : Event} {H′ : WordHeap} → Step H e H′ → AbstractStep e H′ (feed e L) S
   unfolding feed
-  abstract-step refused = record { call = Operations.idle; effect = refl; becomes = step-idle }
-  abstract-step audit = record { call = Operations.idle; effect = refl; becomes = step-idle }
+  abstract-step nothing = record { call = Operations.idle; effect = refl; becomes = step-idle }
   abstract-step (setup H′ F) = record { call = Operations.setup; effect = refl; becomes = step-setup F }
-  abstract-step (openStack s A) = record { call = Operations.resetStack s true; effect = refl; becomes = step-resetStack s true A }
-  abstract-step (closeStack s A) = record { call = Operations.resetStack s false; effect = refl; becomes = step-resetStack s false A }
-  abstract-step (allocate s i p n w ar E u A o h a b c d e f g j) = record { call = Operations.allocate s i p; effect = refl; becomes = step-allocate s i p n w ar E u A o h a b c d e f g j }
-  abstract-step (copy s i j A o h) = record { call = _; effect = refl; becomes = step-copy s i j A o h }
-  abstract-step (clear s i A o h) = record { call = _; effect = refl; becomes = step-clear s i A o h }
-  abstract-step (load s i j f A o h z b) = record { call = _; effect = refl; becomes = step-load s i j f A o h z b }
-  abstract-step (loadGlobal s i g A o h) = record { call = _; effect = refl; becomes = step-loadGlobal s i g A o h }
+  abstract-step (resetStack s b A) = record { call = Operations.resetStack s b; effect = refl; becomes = step-resetStack s b A }
+  abstract-step (assign s i v A o h t) = record { call = Operations.assign s i v; effect = refl; becomes = step-assign s i v A o h t }
   abstract-step (store s j f k A z b) = record { call = _; effect = refl; becomes = step-store s j f k A z b }
   abstract-step (storeGlobal s g i A h) = record { call = _; effect = refl; becomes = step-storeGlobal s g i A h }
   abstract-step (put s j f v A z b c) = record { call = Operations.idle; effect = refl; becomes = step-put s j f v A z b c }
+  abstract-step (allocate s i p n w ar E u A o h a b c d e f g j) = record { call = Operations.allocate s i p; effect = refl; becomes = step-allocate s i p n w ar E u A o h a b c d e f g j }
   abstract-step (get s j f z b c) = record { call = Operations.idle; effect = refl; becomes = step-idle }
   abstract-step (start A p) = record { call = Operations.start; effect = refl; becomes = step-start A p }
   abstract-step (scanStack s A p) = record { call = Operations.scanStack s; effect = refl; becomes = step-scanStack s A p }
@@ -339,7 +322,6 @@ module _ {H : WordHeap} {L : Ledger} {S : State} {Y : Layout} (R : Agrees H L S 
   abstract-step (scanGlobals A p) = record { call = Operations.scanGlobals; effect = refl; becomes = step-scanGlobals A p }
   abstract-step (rescanGlobals p g) = record { call = Operations.idle; effect = refl; becomes = step-idle }
   abstract-step (markStep w A p g) = let r = step-markStep w A p g in record { call = Operations.markStep (r .0); effect = refl; becomes = r .1 }
-  abstract-step noneGray = record { call = Operations.idle; effect = refl; becomes = step-idle }
   abstract-step (finish u A p g gg gs h) = record { call = Operations.finish; effect = refl; becomes = step-finish u A p g gg gs h }
   abstract-step (sweepStep q E A p d c) = record { call = _; effect = refl; becomes = step-sweepStep q E A p d c }
   abstract-step (endCycle A p h) = record { call = Operations.endCycle; effect = refl; becomes = step-endCycle A p h }

@@ -111,7 +111,7 @@ module _ {allocatedBit allocated : ℕ → Bool} {E : Elements} {Y : Layout} (G 
       rw (h n (omega arith)) (shade-colours (g n) (k n) (shadeAll-grows G g n C 0 z) (shadeAll-colours a g n (λ f l. h f (omega arith)) k z Q))
 
 module _ {allocatedBit allocated : ℕ → Bool} {E : Elements} {Y : Layout} (G : Graph) (P : Placed allocatedBit E Y (G .pointers) allocated) where
-  -- two words of records are asNumber only if the record and the field are
+  -- two words of records are one only if the record and the field are
   pub same-word : (x f y g : ℕ) → Live allocated x → Live allocated y → f < Y .words x → g < Y .words y →
       eqb (Y .at x + f) (Y .at y + g) ≡ (eqb x y && eqb f g)
   same-word x f y g l k u v = go (test (eqb x y))

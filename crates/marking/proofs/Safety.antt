@@ -13,7 +13,8 @@ use Rattle.marking.proofs.Closure.{Closure, here, next, closure-in}
 use Rattle.model.specs.Memory.{slotCount}
 use Rattle.marking.proofs.Graph.{Graph, Shape, Closed, Root, globals, inSlot, Reach, setSlot, setField, emptyStack, birth, shape-setSlot, shape-setField, shape-emptyStack, shape-birth, closed-setSlot, closed-setField, closed-emptyStack, closed-birth, emptyStack-nil}
 use Rattle.marking.proofs.Colours.{Colours, Marked, TriColour, shade, shadeAll, ungray, setGrayStack, blacken, shade-grows, shade-marks, shade-keeps, setField-keeps, setSlot-keeps, emptyStack-keeps, ungray-keeps, setGrayStack-keeps, birth-keeps, shadeAll-grows, shadeAll-marks, shadeAll-keeps, shadeAll-ungray}
-use Rattle.marking.proofs.Operations.{State, recoloured, barrier, birthColours, scanColours, Held, nil, slot, Source, held, field, Operation, idle, setup, initial, performAll, AllAllowed, assign, store, resetStack, allocate, start, finish, endCycle, scanStack, scanGlobals, markStep, sweepStep, Allowed, perform, markAt}
+use Rattle.marking.proofs.Operations.{State, recoloured, barrier, birthColours, scanColours, Held, nil, slot, graphSource, Operation, idle, setup, initial, performAll, AllAllowed, assign, store, resetStack, allocate, start, finish, endCycle, scanStack, scanGlobals, markStep, sweepStep, Allowed, perform, markAt}
+use Rattle.marking.specs.Event.{Source}
 use Rattle.marking.specs.WordHeap.{Phase, off, mark, marking}
 
 -- THE INVARIANT: kept nodes are closed and allocated, nodes that have been born are closed, allocated nodes have been born
@@ -25,24 +26,24 @@ pub record Invariant (S : State) : Type 0 where
   pub allocatedBorn : (x : ℕ) → T (S .allocated x) → x < S .graph .born
   pub tricolour : T (marking (S .phase)) → TriColour (S .graph) (S .kept) (S .colours)
 
--- what a stack holds, and what a call may put in a slot, is in each closed predicate ..
+-- what a stack holds, and what a call puts in a slot, is in each closed predicate ..
 pub held-closed : {G : Graph} {t : ℕ} {P : ℕ → Type 0} → Closed G P → {x : ℕ} → Held G t x → P x
 held-closed Q nil = Q .nil
 held-closed {G} {t} Q (slot j) = Q .root t j
 
-pub source-closed : {G : Graph} {t : ℕ} {P : ℕ → Type 0} → Closed G P → {x : ℕ} → Source G t x → P x
-source-closed Q (held h) = held-closed Q h
-source-closed Q (field {x} h f) = Q .step x f (held-closed Q h)
+pub source-closed : {G : Graph} {P : ℕ → Type 0} → Closed G P → (t : ℕ) (v : Source) → P (graphSource G t v)
+source-closed Q t Source.nil = Q .nil
+source-closed Q t (Source.slot j) = Q .root t j
+source-closed {G} Q t (Source.pointer j f) = Q .step (G .slot t j) f (Q .root t j)
+source-closed Q t (Source.global g) = Q .step 0 g (Q .nil)
 
 -- .. and, for a scanned stack, in what the marked nodes reach
-module _ {G : Graph} {kept : ℕ → Bool} {C : Colours} (M : TriColour G kept C) {t : ℕ} (d : T (not (C .grayStack t))) where
-  held-scanned : {x : ℕ} → Held G t x → Closure (G .field) (Marked C) x
-  held-scanned nil = here (M .nil)
-  held-scanned (slot j) = M .scanned t j d
-
-  source-scanned : {x : ℕ} → Source G t x → Closure (G .field) (Marked C) x
-  source-scanned (held h) = held-scanned h
-  source-scanned (field h f) = next (held-scanned h) f
+source-scanned : {G : Graph} {kept : ℕ → Bool} {C : Colours} → TriColour G kept C → (t : ℕ) (v : Source) → T (not (C .grayStack t)) →
+    Closure (G .field) (Marked C) (graphSource G t v)
+source-scanned M t Source.nil d = here (M .nil)
+source-scanned M t (Source.slot j) d = M .scanned t j d
+source-scanned M t (Source.pointer j f) d = next (M .scanned t j d) f
+source-scanned M t (Source.global g) d = next (here (M .nil)) g
 
 -- what each call of the collector does to the colours
 stack-keeps : {G : Graph} {kept : ℕ → Bool} {C : Colours} (t : ℕ) (b : Bool) → TriColour G kept C →
@@ -176,12 +177,12 @@ unfolding perform setSlot setField emptyStack birth
 perform-keeps idle S p I = I
 perform-keeps setup S p I = initial-keeps
 perform-keeps (assign t i v) S p I = record {
-  shape = shape-setSlot t i v (p .1) (p .2) (I .shape);
-  keptClosed = closed-setSlot t i v (source-closed (I .keptClosed) (p .0)) (I .keptClosed);
+  shape = shape-setSlot t i _ (p .0) (p .1) (I .shape);
+  keptClosed = closed-setSlot t i _ (source-closed (I .keptClosed) t v) (I .keptClosed);
   keptAllocated = I .keptAllocated;
-  bornClosed = closed-setSlot t i v (source-closed (I .bornClosed) (p .0)) (I .bornClosed);
+  bornClosed = closed-setSlot t i _ (source-closed (I .bornClosed) t v) (I .bornClosed);
   allocatedBorn = I .allocatedBorn;
-  tricolour = λ m. setSlot-keeps t i v (λ d. source-scanned (I .tricolour m) d (p .0)) (I .tricolour m);
+  tricolour = λ m. setSlot-keeps t i _ (source-scanned (I .tricolour m) t v) (I .tricolour m);
 }
 perform-keeps (store t x f v) S p I = record {
   shape = shape-setField x f v (p .2) (I .shape);

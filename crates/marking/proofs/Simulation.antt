@@ -10,7 +10,8 @@ use Rattle.marking.proofs.Updates.{update-same, update-other, test, con
 use Rattle.model.specs.Memory.{slotCount}
 use Rattle.marking.proofs.Graph.{setSlot, setField, emptyStack}
 use Rattle.marking.proofs.Colours.{Marked, shade, shadeAll, ungray, setGrayStack, shade-grows}
-use Rattle.marking.proofs.Operations.{State, idle, assign, store, resetStack, start, finish, endCycle, scanStack, scanGlobals, markStep, sweepStep, perform, markAt}
+use Rattle.marking.specs.Event.{Source}
+use Rattle.marking.proofs.Operations.{State, graphSource, idle, assign, store, resetStack, start, finish, endCycle, scanStack, scanGlobals, markStep, sweepStep, perform, markAt}
 use Rattle.marking.specs.WordHeap.{off, mark, sweep, marking, ColourBits, Elements, WordHeap, LegalColours, Alike, barrier, shadeBits, shadeAllBits, heapAssign, heapStore, heapStoreGlobal, heapPut, heapResetStack, heapStart, heapScanStack, heapScanGlobals, heapMarkStep, heapFinish, heapSweep, heapEndCycle, named}
 use Rattle.marking.proofs.Safety.{Invariant}
 use Rattle.marking.proofs.Represents.{Layout, address, Live, SameColours, Represents, same-place, shade-colours, shadeAll-colours, assign-words, store-words, storeGlobal-words, put-words, emptyStack-words}
@@ -27,11 +28,12 @@ same-flag : {X : Type 0} (h k : ℕ → X) (i : ℕ) (v : X) → ((x : ℕ) → 
 same-flag h k i v e x = rw (update-is h i v x, update-is k i v x, e x)
 
 module _ {H : WordHeap} {Y : Layout} {numbers : ℕ → ℕ → ℕ} {S : State} (A : LegalColours H) (I : Invariant S) (Z : Represents H Y numbers S) where
-  pub represents-assign : (t i v : ℕ) → Represents (heapAssign t i (address Y v) H) Y numbers (perform (assign t i v) S)
+  pub represents-assign : (t i : ℕ) (v : Source) →
+      Represents (heapAssign t i (address Y (graphSource (S .graph) t v)) H) Y numbers (perform (assign t i v) S)
   unfolding heapAssign perform setSlot
   represents-assign t i v = record {
     placed = Z .placed;
-    words = assign-words (S .graph) (Z .placed) (Z .words) t i v;
+    words = assign-words (S .graph) (Z .placed) (Z .words) t i (graphSource (S .graph) t v);
     colours = Z .colours;
     kept = Z .kept;
     opened = Z .opened;

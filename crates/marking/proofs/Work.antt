@@ -19,7 +19,7 @@ use Rattle.marking.specs.WordHeap.{marking}
 use Rattle.marking.proofs.Safety.{Invariant, perform-keeps, runs-keep}
 use Rattle.marking.proofs.Cycle.{counted}
 use Rattle.marking.specs.Count.{some, count}
-use Rattle.marking.proofs.Count.{count-le, count-lt, total-more}
+use Rattle.marking.proofs.Count.{count-le, count-lt, below-more}
 
 abbrev pub black : Colours → ℕ → Bool
 black C x = C .marked x && not (C .gray x)
@@ -124,12 +124,12 @@ darker c S w p I m = go (darkens c S w p I m) (darkens c S w p I m .takes)
     go D (inl e) = omega (
       arith,
       count-le (black (S .colours)) (black ((perform c S) .colours)) (S .graph .born) (λ x _ _. D .black x),
-      total-more (some (black ((perform c S) .colours))) (S .graph .born) ((perform c S) .graph .born) grows,
+      below-more (some (black ((perform c S) .colours))) (S .graph .born) ((perform c S) .graph .born) grows,
     )
     go D (inr r) = omega (
       arith,
       count-lt (black (S .colours)) (black ((perform c S) .colours)) (S .graph .born) (r .1 .0) (r .1 .1) (born (r .1 .0) (r .1 .2)) (not-yet (r .1 .0) (r .1 .2)) (r .1 .3) (λ x _ _. D .black x),
-      total-more (some (black ((perform c S) .colours))) (S .graph .born) ((perform c S) .graph .born) grows,
+      below-more (some (black ((perform c S) .colours))) (S .graph .born) ((perform c S) .graph .born) grows,
     )
       where
         born : (x : ℕ) → T (S .colours .gray x) → x < S .graph .born

@@ -1,16 +1,19 @@
 -- PROGRESS, as a claim of one call: a scan of a gray stack, a scan of the gray globals and a mark step each lower what is left to mark; a sweep step
--- that meets an allocated record lowers what is left to sweep. Both are at most the number of stacks, one, and the allocated records
--- (proofs/Advance.antt).
+-- that meets an allocated record lowers what is left to sweep. The first is at most the number of stacks, one, and the allocated records, the second at
+-- most the allocated records (proofs/Advance.antt, which proves the claim). Read Claim before it.
 use mathlib.Core.Bool.{Bool, not, _&&_}
 use mathlib.Core.Path.{_≡_}
 use Prim.Native.Nat.{ℕ, suc, _+_, _<_}
 use lib.Dec.{T}
+use Rattle.model.specs.Bounded.{countBelow}
 use Rattle.model.specs.Memory.{wordOf}
 use Rattle.marking.specs.Effect.{asNumber}
-use Rattle.marking.specs.Count.{total, count}
+use Rattle.marking.specs.Count.{count}
 use Rattle.marking.specs.WordHeap.{WordHeap}
 use Rattle.marking.specs.WordHeap
-use Rattle.marking.specs.Ledger.{Ledger, Event, feed}
+use Rattle.marking.specs.Event.{Event}
+use Rattle.marking.specs.Event
+use Rattle.marking.specs.Ledger.{Ledger, feed}
 use Rattle.marking.specs.Trace.{Step}
 use Rattle.marking.specs.Claim.{isAllocated}
 
@@ -20,7 +23,7 @@ isBlack L H x = H .bits .marked (wordOf (L .address x)) && not (H .bits .gray (w
 
 -- what is left to mark: gray stacks, of n; gray globals; and the allocated records that are not black
 unfoldable pub toMark : ℕ → Ledger → WordHeap → ℕ
-toMark n L H = total (H .bits .grayStack) n + asNumber (H .bits .grayGlobals) + count (λ x. isAllocated L H x && not (isBlack L H x))
+toMark n L H = countBelow n (H .bits .grayStack) + asNumber (H .bits .grayGlobals) + count (λ x. isAllocated L H x && not (isBlack L H x))
     (suc (L .count))
 
 -- what is left to sweep: the allocated records in unswept spans

@@ -1,4 +1,5 @@
--- DEMAND 3, as a claim about a list of calls on a heap of words and bits. This file says what is claimed; Demand proves it.
+-- DEMAND 3, as a claim about a list of calls on a heap of words and bits: the record `Correct`, at the end. proofs/Correct.antt proves it. Read Ledger
+-- and Trace before it. (That every page is free or in exactly one span needs the page table, and is claimed in the crate history.)
 use mathlib.Core.Path.{_≡_}
 use mathlib.Core.Bool.{Bool, not, cond, _&&_}
 use mathlib.Core.Logic.{_≢_}
@@ -8,8 +9,10 @@ use lib.Dec.{T, eqb}
 use Rattle.marking.specs.Effect.{lasting, inCycle, inMarking, isSweep, turnedOff, work}
 use Rattle.marking.specs.Count.{count}
 use Rattle.model.specs.Memory.{addressOf, wordOf}
-use Rattle.marking.specs.WordHeap.{WordHeap, named}
-use Rattle.marking.specs.Ledger.{Ledger, Event, effect, Each, feed, feedAll, value, word, Reachable, lastBorn}
+use Rattle.marking.specs.WordHeap.{WordHeap, recordIn}
+use Rattle.marking.specs.Event.{Event, effect, Each}
+use Rattle.marking.specs.Event
+use Rattle.marking.specs.Ledger.{Ledger, feed, feedAll, value, word, Reachable, lastBorn}
 use Rattle.marking.specs.Trace.{Step, Steps, ready, more}
 
 -- "After the list the same stacks are open as in the ledger and every slot and global equals the ledger's; each reachable record has
@@ -23,46 +26,11 @@ pub record MatchesLedger (H : WordHeap) (L : Ledger) : Type 0 where
   pub apart : (x y f g : ℕ) → Reachable L x → Reachable L y → x ≢ y → f < L .words x → g < L .words y →
       wordOf (L .address x) + f ≢ wordOf (L .address y) + g
 
--- what a call's answer is about: the slot that it sets, the word that it gets, or nothing that the ledger knows
-pub data Subject : Type 0 where
-  nothing : Subject
-  slot : (s i : ℕ) → Subject
-  number : (s j f : ℕ) → Subject
-
-abbrev pub subject : Event → Subject
-subject Event.refused = nothing
-subject Event.setup = nothing
-subject Event.audit = nothing
-subject (Event.openStack s) = nothing
-subject (Event.closeStack s) = nothing
-subject (Event.allocate s i p n a) = slot s i
-subject (Event.copy s i j) = slot s i
-subject (Event.clear s i) = slot s i
-subject (Event.load s i j f) = slot s i
-subject (Event.store s j f k) = nothing
-subject (Event.put s j f v) = nothing
-subject (Event.get s j f) = number s j f
-subject (Event.loadGlobal s i g) = slot s i
-subject (Event.storeGlobal s g i) = nothing
-subject Event.start = nothing
-subject (Event.scanStack s) = nothing
-subject Event.scanGlobals = nothing
-subject Event.markStep = nothing
-subject Event.noneGray = nothing
-subject Event.finish = nothing
-subject Event.sweepStep = nothing
-subject Event.endCycle = nothing
-
--- the answer, of the heap that the call leaves and of the ledger after it
-abbrev pub given : Subject → WordHeap → ℕ
-given nothing H = 0
-given (slot s i) H = H .slots s i
-given (number s j f) H = H .arena (named (H .elements) (H .slots s j) + f)
-
-abbrev pub expected : Subject → Ledger → ℕ
-expected nothing L = 0
-expected (slot s i) L = value L (L .slot s i)
-expected (number s j f) L = word L (L .slot s j) f
+-- "Each accepted call that sets a slot answered the ledger's new value of it, and get that of its word.": of a call with event e that leaves the heap
+-- H, where L is the ledger after it. A call that sets a slot answers what the slot holds then
+pub record Answers (e : Event) (H : WordHeap) (L : Ledger) : Type 0 where
+  pub slots : (s i : ℕ) → H .slots s i ≡ value L (L .slot s i)
+  pub got : (s j f : ℕ) → e ≡ Event.get s j f → H .arena (recordIn H s j + f) ≡ word L (L .slot s j) f
 
 -- how often a call frees the record x: a sweep step does that turns off the allocated bit at its address, if x is the last born there
 unfoldable pub freedIn : ℕ → Ledger → WordHeap → Event → WordHeap → ℕ
@@ -96,8 +64,8 @@ workIn (e ∷ es) = work (effect e) + workIn es
 -- of the heap itself, of each call that may come next, and of each cycle that may start there
 pub record Correct (H : WordHeap) (L : Ledger) (n : ℕ → ℕ) : Type 0 where
   pub matches : MatchesLedger H L
-  -- "Each accepted call that sets a slot answered the ledger's new value of it, and get that of its word."
-  pub answers : {e : Event} {H′ : WordHeap} → Step H e H′ → given (subject e) H′ ≡ expected (subject e) (feed e L)
+  -- what the next call answers
+  pub answers : {e : Event} {H′ : WordHeap} → Step H e H′ → Answers e H′ (feed e L)
   -- "A sweep step that turns off the allocated bit at an address frees the record last born there.": where a bit is on one was
   -- born, and not freed before; a sweep step that turns it off frees that record
   pub frees : (w : ℕ) → T (H .allocated w) →

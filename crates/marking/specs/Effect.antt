@@ -1,66 +1,42 @@
--- What a call does to a cycle, of all that it does. The events that the ledger is fed (Ledger) and the calls of the abstract heap
--- (Calls) each have an effect; all that is said of cycles goes by it.
-use mathlib.Core.Bool.{Bool, true, false, not, _&&_}
+-- What a call does to a cycle, of all that it does, and the tests by which cycles are told. Every event (Event) has an effect, and so has every call
+-- of the abstract heap (proofs/Operations.antt). Nothing has to be read before it.
+--
+-- "A cycle runs from an accepted start to the next accepted sweep step that answers 0, 0, 0; a setup accepted before that breaks it off."
+use mathlib.Core.Bool.{Bool, true, false, not, cond, _&&_, _||_}
 use Prim.Native.Nat.{ℕ}
 
--- works: a mark step that takes a gray record. ends: the sweep step that ends a cycle; sweeps: any other
+infix 50 _is_
+-- none: most calls, a refused call among them. works: a mark step that takes a gray record. ends: the sweep step that ends a cycle; sweeps: any other
 pub data Effect : Type 0 where
   none setsUp starts works finishes sweeps ends : Effect
+  deriving Discrete as same
+
+abbrev pub _is_ : Effect → Effect → Bool
+e is f = elim (same e f) [ yes p ↦ true | no p ↦ false ]
 
 -- every call but a setup
 abbrev pub lasting : Effect → Bool
-lasting none = true
-lasting setsUp = false
-lasting starts = true
-lasting works = true
-lasting finishes = true
-lasting sweeps = true
-lasting ends = true
+lasting e = not (e is setsUp)
 
 -- a call that neither ends a cycle nor breaks it off
 abbrev pub inCycle : Effect → Bool
-inCycle none = true
-inCycle setsUp = false
-inCycle starts = true
-inCycle works = true
-inCycle finishes = true
-inCycle sweeps = true
-inCycle ends = false
+inCycle e = lasting e && not (e is ends)
 
--- a call between a start and its finish
+-- a call between a start and its finish, in the mark phase: setups, starts, finishes and sweep steps are none
 abbrev pub inMarking : Effect → Bool
-inMarking none = true
-inMarking setsUp = false
-inMarking starts = false
-inMarking works = true
-inMarking finishes = false
-inMarking sweeps = false
-inMarking ends = false
-
-abbrev pub asNumber : Bool → ℕ
-asNumber true = 1
-asNumber false = 0
+inMarking e = e is none || e is works
 
 -- a sweep step, the one that ends a cycle among them
 abbrev pub isSweep : Effect → Bool
-isSweep none = false
-isSweep setsUp = false
-isSweep starts = false
-isSweep works = false
-isSweep finishes = false
-isSweep sweeps = true
-isSweep ends = true
+isSweep e = e is sweeps || e is ends
 
--- only a sweep step frees: what was allocated and is no more
+abbrev pub asNumber : Bool → ℕ
+asNumber b = cond b 1 0
+
+-- how often, once or not at all, a call turns off a bit that was `before` and is `after` it: only a sweep step counts
 abbrev pub turnedOff : Effect → Bool → Bool → ℕ
 turnedOff e before after = asNumber (isSweep e && before && not after)
 
--- mark steps that do work
+-- how many mark steps that do work a call is
 abbrev pub work : Effect → ℕ
-work none = 0
-work setsUp = 0
-work starts = 0
-work works = 1
-work finishes = 0
-work sweeps = 0
-work ends = 0
+work e = asNumber (e is works)

@@ -1,6 +1,6 @@
 -- THE EXACT FREED SET. In ledger terms alone: from a start on, a scan adds all that the scanned slots or globals reach, a store all that the
 -- old and the new value reach, a birth the record that is born. What has been added by the finish survives the cycle; every other record
--- that is allocated then is freed, wherever the mark steps fall. This file says so; Exact proves it.
+-- that is allocated then is freed, wherever the mark steps fall. The record `Exact`, at the end, says so; proofs/Exact.antt proves it. Read Claim before it.
 use mathlib.Core.Path.{_≡_}
 use mathlib.Core.Bool.{Bool, _&&_}
 use mathlib.Core.Logic.{_⊎_}
@@ -10,7 +10,9 @@ use lib.Dec.{T}
 use Rattle.marking.specs.Effect.{inCycle, inMarking}
 use Rattle.marking.specs.WordHeap.{WordHeap}
 use Rattle.model.specs.Memory.{wordOf}
-use Rattle.marking.specs.Ledger.{Ledger, Event, Each, feed, feedAll}
+use Rattle.marking.specs.Event.{Event, resetStack, assign, store, storeGlobal, put, allocate, writes, get, scanStack, scanGlobals, does, Each}
+use Rattle.marking.specs.Event
+use Rattle.marking.specs.Ledger.{Ledger, feed, feedAll}
 use Rattle.marking.specs.Trace.{Step, Steps}
 use Rattle.marking.specs.Claim.{isAllocated, freedToEnd}
 
@@ -21,28 +23,16 @@ pub data From (L : Ledger) (v : ℕ) : ℕ → Type 0 where
 
 -- the records that a call in the mark phase saves
 abbrev pub Saves : Event → Ledger → ℕ → Type 0
-Saves Event.refused L x = ⊥
-Saves Event.setup L x = ⊥
-Saves Event.audit L x = ⊥
-Saves (Event.openStack s) L x = ⊥
-Saves (Event.closeStack s) L x = ⊥
-Saves (Event.allocate s i p n a) L x = x ≡ suc (L .count)
-Saves (Event.copy s i j) L x = ⊥
-Saves (Event.clear s i) L x = ⊥
-Saves (Event.load s i j f) L x = ⊥
-Saves (Event.store s j f k) L x = From L (L .pointer (L .slot s j) f) x ⊎ From L (L .slot s k) x
-Saves (Event.put s j f v) L x = ⊥
-Saves (Event.get s j f) L x = ⊥
-Saves (Event.loadGlobal s i g) L x = ⊥
-Saves (Event.storeGlobal s g i) L x = From L (L .global g) x ⊎ From L (L .slot s i) x
-Saves Event.start L x = ⊥
-Saves (Event.scanStack s) L x = (i : ℕ) × From L (L .slot s i) x
-Saves Event.scanGlobals L x = (g : ℕ) × From L (L .global g) x
-Saves Event.markStep L x = ⊥
-Saves Event.noneGray L x = ⊥
-Saves Event.finish L x = ⊥
-Saves Event.sweepStep L x = ⊥
-Saves Event.endCycle L x = ⊥
+Saves (writes (resetStack s b)) L x = ⊥
+Saves (writes (assign s i v)) L x = ⊥
+Saves (writes (store s j f k)) L x = From L (L .pointer (L .slot s j) f) x ⊎ From L (L .slot s k) x
+Saves (writes (storeGlobal s g i)) L x = From L (L .global g) x ⊎ From L (L .slot s i) x
+Saves (writes (put s j f v)) L x = ⊥
+Saves (writes (allocate s i p n a)) L x = x ≡ suc (L .count)
+Saves (get s j f) L x = ⊥
+Saves (scanStack s) L x = (i : ℕ) × From L (L .slot s i) x
+Saves scanGlobals L x = (g : ℕ) × From L (L .global g) x
+Saves (does c) L x = ⊥
 
 -- those of K and what a list of calls saves
 unfoldable pub SavedBy : List Event → Ledger → (ℕ → Type 0) → ℕ → Type 0

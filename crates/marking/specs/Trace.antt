@@ -1,4 +1,4 @@
--- Lists of calls on a heap of words and bits: what each call does, and with which event the ledger is fed.
+-- Lists of calls on a heap of words and bits: what each call does, and with which event the ledger is fed. Read Event, Ledger and WordHeap before it.
 use mathlib.Core.Path.{_≡_}
 use mathlib.Core.Bool.{Bool, true, false, not, cond}
 use mathlib.Core.Logic.{_⊎_}
@@ -6,8 +6,9 @@ use mathlib.Core.List.{List, [], _∷_}
 use Prim.Native.Nat.{ℕ, _+_, _≤_, _<_}
 use lib.Dec.{T, ltb}
 use Rattle.model.specs.Memory.{slotCount, globalCount, addressOf}
-use Rattle.marking.specs.WordHeap.{off, mark, sweep, Elements, WordHeap, LegalColours, Alike, heapAssign, heapStore, heapStoreGlobal, heapPut, heapResetStack, heapStart, heapScanStack, heapScanGlobals, heapMarkStep, heapFinish, heapSweep, heapEndCycle, heapAllocate, named}
-use Rattle.marking.specs.Ledger.{Event}
+use Rattle.marking.specs.WordHeap.{off, mark, sweep, Elements, WordHeap, LegalColours, Alike, recordIn, heapSource, HasSource, heapAssign, heapStore, heapStoreGlobal, heapPut, heapResetStack, heapStart, heapScanStack, heapScanGlobals, heapMarkStep, heapFinish, heapSweep, heapEndCycle, heapAllocate}
+use Rattle.marking.specs.Event.{Source, Write, Event}
+use Rattle.marking.specs.Event
 
 -- a heap after a setup
 pub record Fresh (H : WordHeap) : Type 0 where
@@ -18,36 +19,29 @@ pub record Fresh (H : WordHeap) : Type 0 where
   pub phase : H .phase ≡ off
 
 -- WHAT A CALL DOES, of the heap alone, with what it may assume: whoever connects a concrete heap supplies one of these for each call.
--- allocate: a record of p pointer words and n words in all at word w, clear of every allocated element and in a swept span; its words are 0
--- then, and no other word, element or flag of an allocated one changes. rescanStack, rescanGlobals: a scan of what is scanned already.
--- noneGray: a mark step that finds none gray. sweepStep: the words q lie in an unswept span, and what is left of it is still as it was.
+-- nothing: a refused call, the audit, a mark step that finds none gray. allocate: a record of p pointer words and n words in all at word w, clear of
+-- every allocated element and in a swept span; its words are 0 then, and no other word, element or flag of an allocated one changes. rescanStack,
+-- rescanGlobals: a scan of what is scanned already. sweepStep: the words q lie in an unswept span, and what is left of it is still as it was.
 pub data Step (H : WordHeap) : Event → WordHeap → Type 0 where
-  refused : Step H Event.refused H
-  audit : Step H Event.audit H
+  nothing : Step H Event.nothing H
   setup : (H′ : WordHeap) → Fresh H′ → Step H Event.setup H′
-  openStack : (s : ℕ) → LegalColours H → Step H (Event.openStack s) (heapResetStack s true H)
-  closeStack : (s : ℕ) → LegalColours H → Step H (Event.closeStack s) (heapResetStack s false H)
-  copy : (s i j : ℕ) → LegalColours H → T (H .opened s) → i < slotCount → Step H (Event.copy s i j) (heapAssign s i (H .slots s j) H)
-  clear : (s i : ℕ) → LegalColours H → T (H .opened s) → i < slotCount → Step H (Event.clear s i) (heapAssign s i 0 H)
-  load : (s i j f : ℕ) → LegalColours H → T (H .opened s) → i < slotCount → 0 < H .slots s j →
-      f < H .elements .pointers (named (H .elements) (H .slots s j)) →
-      Step H (Event.load s i j f) (heapAssign s i (H .arena (named (H .elements) (H .slots s j) + f)) H)
-  loadGlobal : (s i g : ℕ) → LegalColours H → T (H .opened s) → i < slotCount → Step H (Event.loadGlobal s i g) (heapAssign s i (H .globals g) H)
-  store : (s j f k : ℕ) → LegalColours H → 0 < H .slots s j → f < H .elements .pointers (named (H .elements) (H .slots s j)) →
-      Step H (Event.store s j f k) (heapStore (named (H .elements) (H .slots s j) + f) (H .slots s k) H)
-  put : (s j f v : ℕ) → LegalColours H → 0 < H .slots s j → H .elements .pointers (named (H .elements) (H .slots s j)) ≤ f →
-      f < H .elements .words (named (H .elements) (H .slots s j)) →
-      Step H (Event.put s j f v) (heapPut (named (H .elements) (H .slots s j) + f) v H)
-  get : (s j f : ℕ) → 0 < H .slots s j → H .elements .pointers (named (H .elements) (H .slots s j)) ≤ f →
-      f < H .elements .words (named (H .elements) (H .slots s j)) →
-      Step H (Event.get s j f) H
-  storeGlobal : (s g i : ℕ) → LegalColours H → g < globalCount → Step H (Event.storeGlobal s g i) (heapStoreGlobal g (H .slots s i) H)
+  resetStack : (s : ℕ) (b : Bool) → LegalColours H → Step H (Event.writes (Write.resetStack s b)) (heapResetStack s b H)
+  assign : (s i : ℕ) (v : Source) → LegalColours H → T (H .opened s) → i < slotCount → HasSource H s v →
+      Step H (Event.writes (Write.assign s i v)) (heapAssign s i (heapSource H s v) H)
+  store : (s j f k : ℕ) → LegalColours H → 0 < H .slots s j → f < H .elements .pointers (recordIn H s j) →
+      Step H (Event.writes (Write.store s j f k)) (heapStore (recordIn H s j + f) (H .slots s k) H)
+  storeGlobal : (s g i : ℕ) → LegalColours H → g < globalCount →
+      Step H (Event.writes (Write.storeGlobal s g i)) (heapStoreGlobal g (H .slots s i) H)
+  put : (s j f v : ℕ) → LegalColours H → 0 < H .slots s j → H .elements .pointers (recordIn H s j) ≤ f → f < H .elements .words (recordIn H s j) →
+      Step H (Event.writes (Write.put s j f v)) (heapPut (recordIn H s j + f) v H)
   allocate : (s i p n w : ℕ) (arena : ℕ → ℕ) (E : Elements) (unswept : ℕ → Bool) → LegalColours H → T (H .opened s) → i < slotCount →
       ((v : ℕ) → T (H .allocated v) → (v + H .elements .words v ≤ w) ⊎ (w + n ≤ v)) → (p ≤ n) × (0 < n) →
       ((k : ℕ) → k < n → arena (w + k) ≡ 0) → ((v : ℕ) → ((v < w) ⊎ (w + n ≤ v)) → arena v ≡ H .arena v) →
       (E .scan w ≡ ltb 0 p) × (E .pointers w ≡ p) × (E .words w ≡ n) → ((v : ℕ) → T (H .allocated v) → Alike E (H .elements) v) →
       unswept w ≡ false → ((v : ℕ) → T (H .allocated v) → unswept v ≡ H .unswept v) →
-      Step H (Event.allocate s i p n (addressOf w)) (heapAllocate s i w arena E unswept H)
+      Step H (Event.writes (Write.allocate s i p n (addressOf w))) (heapAllocate s i w arena E unswept H)
+  get : (s j f : ℕ) → 0 < H .slots s j → H .elements .pointers (recordIn H s j) ≤ f → f < H .elements .words (recordIn H s j) →
+      Step H (Event.get s j f) H
   start : LegalColours H → H .phase ≡ off → Step H Event.start (heapStart H)
   scanStack : (s : ℕ) → LegalColours H → H .phase ≡ mark → Step H (Event.scanStack s) (heapScanStack s H)
   rescanStack : (s : ℕ) → H .phase ≡ mark → T (not (H .bits .grayStack s)) → Step H (Event.scanStack s) H
@@ -55,7 +49,6 @@ pub data Step (H : WordHeap) : Event → WordHeap → Type 0 where
   rescanGlobals : H .phase ≡ mark → T (not (H .bits .grayGlobals)) → Step H Event.scanGlobals H
   markStep : (w : ℕ) → LegalColours H → H .phase ≡ mark → T (H .bits .gray w) →
       Step H Event.markStep (heapMarkStep w (H .elements .pointers w) H)
-  noneGray : Step H Event.noneGray H
   finish : (unswept : ℕ → Bool) → LegalColours H → H .phase ≡ mark → ((w : ℕ) → T (not (H .bits .gray w))) → T (not (H .bits .grayGlobals)) →
       ((t : ℕ) → T (not (H .bits .grayStack t))) →
       ((w : ℕ) → T (H .allocated w) → unswept w ≡ true) → Step H Event.finish (heapFinish unswept H)

@@ -1,4 +1,4 @@
--- Functions changed at a place.
+-- Functions changed at a place: h, but v at i. Nothing has to be read before it.
 use mathlib.Core.Bool.{cond}
 use Prim.Native.Nat.{ℕ}
 use lib.Dec.{eqb}

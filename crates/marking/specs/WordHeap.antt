@@ -1,10 +1,12 @@
--- A heap of words and bits, as functions of word numbers, and what each call does to it. The four buffers are seen as such a heap.
+-- A heap of words and bits, as functions of word numbers, and what each call does to it. The four buffers are seen as such a heap (crate history,
+-- proofs/View.antt). Of the files before it only `Source` of Event is used.
 use mathlib.Core.Path.{_≡_}
 use mathlib.Core.Bool.{Bool, true, false, not, cond, _&&_, _||_}
-use Prim.Native.Nat.{ℕ, zero, suc, _+_, _*_, _-_, _/_}
+use Prim.Native.Nat.{ℕ, zero, suc, _+_, _<_}
 use lib.Dec.{T, eqb}
 use Rattle.model.specs.Memory.{slotCount, addressOf, wordOf}
 use Rattle.marking.specs.Updates.{update, update2}
+use Rattle.marking.specs.Event.{Source}
 
 -- the phase of a cycle
 pub data Phase : Type 0 where
@@ -101,6 +103,24 @@ abbrev pub withPhase : Phase → WordHeap → WordHeap
 withPhase p H = record { arena = H .arena; allocated = H .allocated; elements = H .elements; unswept = H .unswept; bits = H .bits; slots = H .slots; globals = H .globals; opened = H .opened; phase = p }
 
 -- THE CALLS: w is a word number, a an address
+-- the first word of the record in slot j of stack t
+abbrev pub recordIn : WordHeap → ℕ → ℕ → ℕ
+recordIn H t j = named (H .elements) (H .slots t j)
+
+-- what a source of stack t holds ..
+abbrev pub heapSource : WordHeap → ℕ → Source → ℕ
+heapSource H t Source.nil = 0
+heapSource H t (Source.slot j) = H .slots t j
+heapSource H t (Source.pointer j f) = H .arena (recordIn H t j + f)
+heapSource H t (Source.global g) = H .globals g
+
+-- .. where there is one: a pointer word is one of a record
+abbrev pub HasSource : WordHeap → ℕ → Source → Type 0
+HasSource H t Source.nil = Unit {0}
+HasSource H t (Source.slot j) = Unit {0}
+HasSource H t (Source.pointer j f) = (0 < H .slots t j) × (f < H .elements .pointers (recordIn H t j))
+HasSource H t (Source.global g) = Unit {0}
+
 -- slot i of stack t becomes a
 unfoldable pub heapAssign : (t i a : ℕ) → WordHeap → WordHeap
 heapAssign t i a H = withRoots (update2 (H .slots) t i a) (H .globals) (H .opened) H
