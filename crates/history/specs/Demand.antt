@@ -16,7 +16,7 @@ use lib.Dec.{T, eqb}
 use Rattle.marking.specs.Effect.{lasting, inCycle, isSweep, turnedOff}
 use Rattle.marking.specs.Event.{Write}
 use Rattle.marking.specs.Event
-use Rattle.marking.specs.Ledger.{Ledger, Event, effect, Each, empty, feed, feedAll, value, word as ledgerWord, Reachable, lastBorn}
+use Rattle.marking.specs.Ledger.{Ledger, Event, effect, Each, empty, feed, feedAll, value, ledgerWord, Reachable, lastBorn}
 use Rattle.model.specs.Memory.{Heap, word, slot, global, state, wordOf, addressOf, stackCount, slotCount, globalCount, closed}
 use Rattle.model.specs.Bitmaps.{is, allocated}
 use Rattle.model.specs.Spans.{owner, pageCount, kindEntry}

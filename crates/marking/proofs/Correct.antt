@@ -21,7 +21,7 @@ use Rattle.model.specs.Memory.{addressOf, wordOf}
 use Rattle.marking.proofs.Represents.{Layout, Live}
 use Rattle.marking.specs.Event.{Event, effect, Each}
 use Rattle.marking.specs.Event
-use Rattle.marking.specs.Ledger.{Ledger, feed, feedAll, empty, word, Reachable, lastBorn}
+use Rattle.marking.specs.Ledger.{Ledger, feed, feedAll, empty, ledgerWord, Reachable, lastBorn}
 use Rattle.marking.specs.Trace.{Step, Steps, setup, start, endCycle, get}
 use Rattle.marking.proofs.Agreement.{Agrees}
 use Rattle.marking.proofs.Refinement.{after, agree, phased, step-start, step-endCycle}
@@ -34,7 +34,7 @@ unfolding perform
 start-marks S = tt
 
 module _ {H : WordHeap} {L : Ledger} {S : State} {Y : Layout} (R : Agrees H L S Y) where
-  got-word : {s j f : ℕ} {H′ : WordHeap} → Step H (Event.get s j f) H′ → H′ .arena (recordIn H′ s j + f) ≡ word L (L .slot s j) f
+  got-word : {s j f : ℕ} {H′ : WordHeap} → Step H (Event.get s j f) H′ → H′ .arena (recordIn H′ s j + f) ≡ ledgerWord L (L .slot s j) f
   got-word (get s j f z b c) = got R s j f z b c
 
   answers : {e : Event} {H′ : WordHeap} → Step H e H′ → Answers e H′ (feed e L)

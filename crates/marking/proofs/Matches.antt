@@ -15,7 +15,7 @@ use Rattle.marking.proofs.Safety.{reach-kept}
 use Rattle.model.specs.Memory.{addressOf, wordOf}
 use Rattle.marking.specs.WordHeap.{WordHeap, named}
 use Rattle.marking.proofs.Represents.{Layout, address, Live, address-live, word-address}
-use Rattle.marking.specs.Ledger.{Ledger, value, word, Reachable, stack, global, field}
+use Rattle.marking.specs.Ledger.{Ledger, value, ledgerWord, Reachable, stack, global, field}
 use Rattle.marking.proofs.Agreement.{Agrees}
 use Rattle.marking.proofs.Refinement.{slot-record}
 use Rattle.marking.specs.Claim.{MatchesLedger}
@@ -44,7 +44,7 @@ module _ {H : WordHeap} {L : Ledger} {S : State} {Y : Layout} (R : Agrees H L S 
   at-is x l = at-born x (l .0) (R .invariant .allocatedBorn x (l .1))
 
   pub matches : MatchesLedger H L
-  unfolding word
+  unfolding ledgerWord
   matches = record {
     opened = λ t. R .represents .opened t ∙ R .describes .opened t;
     slots = λ t i. rw (← (R .describes .slot t i))
@@ -57,7 +57,7 @@ module _ {H : WordHeap} {L : Ledger} {S : State} {Y : Layout} (R : Agrees H L S 
   }
     where
       words : (x f : ℕ) → Live (S .allocated) x → f < L .words x → (T (ltb f (L .pointers x)) ⊎ T (not (ltb f (L .pointers x)))) →
-          H .arena (wordOf (L .address x) + f) ≡ word L x f
+          H .arena (wordOf (L .address x) + f) ≡ ledgerWord L x f
       words x f l h (inl b) = rw
           (at-is x l, of-true (ltb f (L .pointers x)) b, ← (R .describes .pointer x f (l .0)), ← (value-is (S .graph .field x f) (R .invariant .bornClosed .step x f (R .invariant .allocatedBorn x (l .1)))))
           (R .represents .words .pointer x f l (rw (R .describes .pointers x (l .0)) (ltb→lt f (L .pointers x) b)))
@@ -102,8 +102,8 @@ module _ {H : WordHeap} {L : Ledger} {S : State} {Y : Layout} (R : Agrees H L S 
 -- what get answers
 pub got : {H : WordHeap} {L : Ledger} {S : State} {Y : Layout} → Agrees H L S Y → (s j f : ℕ) →
     0 < H .slots s j → H .elements .pointers (named (H .elements) (H .slots s j)) ≤ f → f < H .elements .words (named (H .elements) (H .slots s j)) →
-    H .arena (named (H .elements) (H .slots s j) + f) ≡ word L (L .slot s j) f
-unfolding word
+    H .arena (named (H .elements) (H .slots s j) + f) ≡ ledgerWord L (L .slot s j) f
+unfolding ledgerWord
 got {H} {L} {S} {Y} R s j f z b c =
     let r = slot-record R s j z in
     let p : S .graph .pointers (S .graph .slot s j) ≤ f = rw (r .1, R .represents .placed .pointers (S .graph .slot s j) (r .0)) at b in

@@ -12,7 +12,7 @@ use Rattle.model.specs.Memory.{addressOf, wordOf}
 use Rattle.marking.specs.WordHeap.{WordHeap, recordIn}
 use Rattle.marking.specs.Event.{Event, effect, Each}
 use Rattle.marking.specs.Event
-use Rattle.marking.specs.Ledger.{Ledger, feed, feedAll, value, word, Reachable, lastBorn}
+use Rattle.marking.specs.Ledger.{Ledger, feed, feedAll, value, ledgerWord, Reachable, lastBorn}
 use Rattle.marking.specs.Trace.{Step, Steps, ready, more}
 
 -- "After the list the same stacks are open as in the ledger and every slot and global equals the ledger's; each reachable record has
@@ -22,7 +22,7 @@ pub record MatchesLedger (H : WordHeap) (L : Ledger) : Type 0 where
   pub slots : (t i : ℕ) → H .slots t i ≡ value L (L .slot t i)
   pub globals : (g : ℕ) → H .globals g ≡ value L (L .global g)
   pub allocated : (x : ℕ) → Reachable L x → T (H .allocated (wordOf (L .address x)))
-  pub words : (x f : ℕ) → Reachable L x → f < L .words x → H .arena (wordOf (L .address x) + f) ≡ word L x f
+  pub words : (x f : ℕ) → Reachable L x → f < L .words x → H .arena (wordOf (L .address x) + f) ≡ ledgerWord L x f
   pub apart : (x y f g : ℕ) → Reachable L x → Reachable L y → x ≢ y → f < L .words x → g < L .words y →
       wordOf (L .address x) + f ≢ wordOf (L .address y) + g
 
@@ -30,7 +30,7 @@ pub record MatchesLedger (H : WordHeap) (L : Ledger) : Type 0 where
 -- H, where L is the ledger after it. A call that sets a slot answers what the slot holds then
 pub record Answers (e : Event) (H : WordHeap) (L : Ledger) : Type 0 where
   pub slots : (s i : ℕ) → H .slots s i ≡ value L (L .slot s i)
-  pub got : (s j f : ℕ) → e ≡ Event.get s j f → H .arena (recordIn H s j + f) ≡ word L (L .slot s j) f
+  pub got : (s j f : ℕ) → e ≡ Event.get s j f → H .arena (recordIn H s j + f) ≡ ledgerWord L (L .slot s j) f
 
 -- how often a call frees the record x: a sweep step does that turns off the allocated bit at its address, if x is the last born there
 unfoldable pub freedIn : ℕ → Ledger → WordHeap → Event → WordHeap → ℕ

@@ -85,8 +85,8 @@ unfoldable pub value : Ledger → ℕ → ℕ
 value L x = cond (eqb x 0) 0 (L .address x)
 
 -- word f of the record x, as a number
-unfoldable pub word : Ledger → ℕ → ℕ → ℕ
-word L x f = cond (ltb f (L .pointers x)) (value L (L .pointer x f)) (L .number x f)
+unfoldable pub ledgerWord : Ledger → ℕ → ℕ → ℕ
+ledgerWord L x f = cond (ltb f (L .pointers x)) (value L (L .pointer x f)) (L .number x f)
 
 -- "Reachable is what a slot of an open stack or a global holds, and what a pointer word of a reachable record holds."
 pub data Reachable (L : Ledger) : ℕ → Type 0 where
