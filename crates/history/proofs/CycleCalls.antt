@@ -29,7 +29,6 @@ use Rattle.model.proofs.Bounded.{first-props}
 use Rattle.model.proofs.Rules.{tests}
 use Rattle.model.specs.Facts.{IsSpan, Audited}
 use Rattle.model.proofs.Spans.{fits}
-use Rattle.model.proofs.Effects.{start-is, scan-stack-is}
 use Rattle.model.proofs.Named.{reference-there}
 use Rattle.model.proofs.Facts.{not-unswept, swept-all, pointer-word}
 use Rattle.model.proofs.Checks.{passes, orElse-iff, OpenStack, open-passed, Finishes, finish-passed}
@@ -97,20 +96,22 @@ see-swept {h} F n w = rw (swept-all (F .spans) n (spanOf (h .table) w)) (and-fal
 -- the calls of a cycle, on a heap that passes the audit
 module _ {h : Heap} (F : Audited h) where
   pub start-happens : let o = start h in Happens h Start (o .answer) (o .heap)
-  start-happens = rw (start-is h) (by-refusal F Start (phaseRefusal h 0) (given-small 2 _ (omega arith)) Done (Rattle.model.specs.Memory.withRoots (started h) h) refl (λ e.
+  unfolding start
+  start-happens = by-refusal F Start (phaseRefusal h 0) (given-small 2 _ (omega arith)) Done (Rattle.model.specs.Memory.withRoots (started h) h) refl (λ e.
       let x = simp passes at e in record {
         step = rw (start-view F) (Trace.Step.start (audit-view F) (see-phase h x));
         audited = started-kept F x;
         said = tt;
         zero = refl;
-      }))
+      })
 
   -- a scan that finds the state scanned leaves all as it is
   pub scan-stack-happens : (s : ℕ) → let o = scanStack h s in Happens h (ScanStack s) (o .answer) (o .heap)
-  scan-stack-happens s = rw (scan-stack-is h s) (
+  unfolding scanStack
+  scan-stack-happens s =
       by-refusal F (ScanStack s) (phaseRefusal h 1 orElse openRefusal h s) (orElse-small _ _ (given-small 2 _ (omega arith)) (given-small 3 _ (omega arith)))
       (Value (cond (eqb (state h s) 2) count 0)) (choose (eqb (state h s) 2) (scan slotCount (slot h s) (stateAt s) h) h) refl
-      (λ e. let x = orElse-iff (phaseRefusal h 1) (openRefusal h s) .0 e in go (simp passes at (x .0)) (open-passed h s (x .1)) (eqb (state h s) 2) refl))
+      (λ e. let x = orElse-iff (phaseRefusal h 1) (openRefusal h s) .0 e in go (simp passes at (x .0)) (open-passed h s (x .1)) (eqb (state h s) 2) refl)
     where
       count : ℕ
       count = shadeCount (h .pages) (h .table) slotCount (slot h s) (h .bits)

@@ -23,7 +23,6 @@ use Rattle.model.specs.declared.Answer.the-variants.{Done, Value}
 use Rattle.model.proofs.Classes.{takes}
 use Rattle.model.proofs.Bitmaps.{bit-inside}
 use Rattle.model.proofs.Spans.{whole}
-use Rattle.model.proofs.Effects.{allocate-is}
 use Rattle.model.specs.Facts.{Audited}
 use Rattle.model.proofs.Named.{named, reference-there}
 use Rattle.model.proofs.Facts.{pointer-word}
@@ -196,9 +195,9 @@ module _ {h : Heap} (F : Audited h) where
       })
 
   pub allocate-happens : (s i size p : ℕ) → let o = allocate h s i size p in Happens h (Allocate s i size p) (o .answer) (o .heap)
-  unfolding newBits
-  allocate-happens s i size p = rw (allocate-is h s i size p)
-      (by-refusal F (Allocate s i size p) (allocateRefusal h s i size p) (allocate-small h s i size p) (Value (addressOf w))
+  unfolding allocate newBits
+  allocate-happens s i size p =
+      by-refusal F (Allocate s i size p) (allocateRefusal h s i size p) (allocate-small h s i size p) (Value (addressOf w))
       (taken s i w (wordsOf size) p (withTable (newTable h (kindOf size p) (pagesFor size)) h)) refl (λ e.
       let x = allocate-passed h s i size p e in let o = x .stack in
       let C = choice F size p (takes size p (x .some) (x .limit) (x .pointers)) (x .room) in record {
@@ -206,7 +205,7 @@ module _ {h : Heap} (F : Audited h) where
         audited = chosen-kept F C s i (o .below) (x .slot) (o .isOpen);
         said = taken-now F s i w (wordsOf size) p (newTable h (kindOf size p) (pagesFor size)) (o .below) (x .slot);
         zero = refl;
-      }))
+      })
     where
       w : ℕ
       w = newWord h (kindOf size p) (pagesFor size)
