@@ -21,7 +21,6 @@ use Rattle.model.proofs.Tests.{eqb-shift}
 use Rattle.model.proofs.Bounded.{within, within-yes, within-low, within-high}
 use Rattle.model.proofs.Words.{set-at, words-at, words-length}
 use Rattle.model.proofs.Bitmaps.{Four, samePart, part-at, part-length}
-use Rattle.model.proofs.Effects.{barrier-is}
 use Rattle.model.specs.Facts.{Audited, bit}
 use Rattle.model.proofs.Facts.{four}
 use Rattle.model.proofs.Named.{There}
@@ -112,7 +111,8 @@ module _ {h : Heap} (F : Audited h) (old new : ℕ) (ho : There (h .pages) (h .t
   four′ = rw (shade-length P (h .table) old (h .bits) ho (four h (F .sized))) (four h (F .sized))
 
   pub barrier-other : (q : Part) → samePart q marked ≡ false → samePart q gray ≡ false → bit (h .pages) q (barrier h old new) ≡ is q h
-  barrier-other q x y = rw (barrier-is h old new) (go (eqb (phase h) 1))
+  unfolding barrier
+  barrier-other q x y = go (eqb (phase h) 1)
     where
       go : (b : Bool) → bit P q (cond b (shade P (h .table) new first) (h .bits)) ≡ is q h
       go true = fun-ext (λ v. shade-other P (h .table) new first hn four′ q x y v ∙ shade-other P (h .table) old (h .bits) ho (four h (F .sized)) q x y v)
@@ -121,7 +121,8 @@ module _ {h : Heap} (F : Audited h) (old new : ℕ) (ho : There (h .pages) (h .t
   pub barrier-view : (r : List ℕ) → coloursOf (h .pages) (h .bits) r ≡ coloursOf (h .pages) (h .bits) (h .roots) → coloursOf (h .pages) (barrier h old new) r ≡
       cond (marking (phaseOf (phase h))) (shadeBits (scansAt (h .table)) (recordOf (h .table)) new (shadeBits (scansAt (h .table)) (recordOf (h .table)) old (coloursOf (h .pages) (h .bits) (h .roots))))
       (coloursOf (h .pages) (h .bits) (h .roots))
-  barrier-view r same = rw (barrier-is h old new, marking-is (phase h)) (go (eqb (phase h) 1))
+  unfolding barrier
+  barrier-view r same = rw (marking-is (phase h)) (go (eqb (phase h) 1))
     where
       go : (b : Bool) → coloursOf P (cond b (shade P (h .table) new first) (h .bits)) r ≡
           cond b (shadeBits (scansAt (h .table)) (recordOf (h .table)) new (shadeBits (scansAt (h .table)) (recordOf (h .table)) old (coloursOf P (h .bits) (h .roots)))) (coloursOf P (h .bits) (h .roots))

@@ -17,7 +17,6 @@ use Rattle.model.specs.Cycle.{scan, scanRecord}
 use Rattle.model.proofs.Tests.{is-true, of-true, and-iff, or-iff}
 use Rattle.model.proofs.Words.{set-at}
 use Rattle.model.proofs.Bitmaps.{samePart, part-at, part-length, bit-inside}
-use Rattle.model.proofs.Effects.{barrier-is}
 use Rattle.model.specs.Facts.{Audited, bit, scanAt, unsweptAt, keptAt}
 use Rattle.model.proofs.Facts.{four, not-unswept, pointer-word, no-pointer}
 use Rattle.model.proofs.Named.{There, named, reference-there, refers-over}
@@ -154,7 +153,8 @@ arena-kept {h} F w v l r = record {
 -- the barrier: the bitmaps with the old and the new value shaded keep the audit, and what refers
 pub barrier-kept : {h : Heap} → Audited h → (old new : ℕ) → Refers h old → Refers h new →
     Audited (withBits (barrier h old new) h) × ((x : ℕ) → Refers h x → Refers (withBits (barrier h old new) h) x)
-barrier-kept {h} F old new ro rn = rw (barrier-is h old new) (go (eqb (phase h) 1) refl)
+unfolding barrier
+barrier-kept {h} F old new ro rn = go (eqb (phase h) 1) refl
   where
     go : (b : Bool) → eqb (phase h) 1 ≡ b →
         let m = cond b (shade (h .pages) (h .table) new (shade (h .pages) (h .table) old (h .bits))) (h .bits) in

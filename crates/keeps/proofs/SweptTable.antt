@@ -16,7 +16,6 @@ use Rattle.model.proofs.Bounded.{within, within-yes, within-low, within-high, w
 use Rattle.model.proofs.Table.{page-length, owner-put, count-put, kind-put, pages-length, pages-owner, pages-count, pages-kind}
 use Rattle.model.specs.Facts.{Spans, IsSpan, GoodEntry, Audited}
 use Rattle.model.proofs.Spans.{fits}
-use Rattle.model.proofs.Effects.{swept-table}
 use Rattle.keeps.proofs.Tables.{Same}
 
 -- a choice of two places outside a run
@@ -64,7 +63,8 @@ module _ {h : Heap} (F : Audited h) (s : ℕ) (span : IsSpan (h .table) s) where
 
   -- the table: pages outside the span stay; the span's pages are free, or only the flag is gone
   pub outside : (x : ℕ) → within s (pageCount (h .table) s) x ≡ false → (owner u x ≡ owner t x) × (pageCount u x ≡ pageCount t x) × (kindEntry u x ≡ kindEntry t x)
-  outside x e = rw (swept-table h s) (go (nothingLeft h s))
+  unfolding sweptTable
+  outside x e = go (nothingLeft h s)
     where
       y : Rattle.model.specs.Spans.Entry
       y = spanPage s n (kindEntry t s % unsweptFlag) s
@@ -82,7 +82,8 @@ module _ {h : Heap} (F : Audited h) (s : ℕ) (span : IsSpan (h .table) s) where
       go false = (rw (owner-put P s y t low (F .sized .table) x, d), rw (count-put P s y t low (F .sized .table) x, d), rw (kind-put P s y t low (F .sized .table) x, d))
 
   pub gone : nothingLeft h s ≡ true → (x : ℕ) → within s (pageCount (h .table) s) x ≡ true → (owner u x ≡ 0) × (pageCount u x ≡ 0) × (kindEntry u x ≡ 0)
-  gone b x e = rw (swept-table h s, b) (
+  unfolding sweptTable
+  gone b x e = rw b (
     rw (pages-owner P s n (λ g. freePage) t inside (F .sized .table) x, e),
     rw (pages-count P s n (λ g. freePage) t inside (F .sized .table) x, e),
     rw (pages-kind P s n (λ g. freePage) t inside (F .sized .table) x, e),
@@ -90,7 +91,8 @@ module _ {h : Heap} (F : Audited h) (s : ℕ) (span : IsSpan (h .table) s) where
 
   pub stays : nothingLeft h s ≡ false → (x : ℕ) →
       (owner u x ≡ owner t x) × (pageCount u x ≡ pageCount t x) × (kindEntry u x ≡ cond (eqb x s) (kindEntry t s % unsweptFlag) (kindEntry t x))
-  stays b x = rw (swept-table h s, b) (
+  unfolding sweptTable
+  stays b x = rw b (
     rw (owner-put P s y t low (F .sized .table) x) (at-s (owner t) (s + 1) span),
     rw (count-put P s y t low (F .sized .table) x, same) (at-s (pageCount t) (pageCount t s) refl),
     rw (kind-put P s y t low (F .sized .table) x, same),
@@ -211,7 +213,8 @@ module _ {h : Heap} (F : Audited h) (s : ℕ) (span : IsSpan (h .table) s) where
       go false e = spans-left e
 
   pub table-length : length u ≡ entryNumbers * h .pages
-  table-length = rw (swept-table h s) (go (nothingLeft h s))
+  unfolding sweptTable
+  table-length = go (nothingLeft h s)
     where
       go : (b : Bool) → length (cond b (putPages s n (λ g. freePage) t) (putPage s (spanPage s n (kindEntry t s % unsweptFlag) s) t)) ≡ entryNumbers * h .pages
       go true = pages-length P s n (λ g. freePage) t inside (F .sized .table)

@@ -13,5 +13,5 @@ pub mod Audit
 pub mod Checks
 pub mod Shading
 pub mod Outcomes
-pub mod Effects
 pub mod Tempting
+pub mod Effects
