@@ -135,11 +135,11 @@ lowers P h {L} {n} F N one d = some (grays (onPages P h) one d)
     some : (((s : ℕ) × (s < stackCount) × (state h s ≡ grayState)) ⊎ ((globalsState h ≡ grayState) ⊎ (firstGray (onPages P h) < words (onPages P h)))) → Lowers P h L
     some (inl x) = let y = scan-event F one (x .0) (x .1) (x .2) in
         by (record { pages = P; call = ScanStack (x .0) }) (Event.scanStack (x .0)) refl (y .0) (y .1)
-        (Advance.scan (x .0) (x .1) (see-stack (onPages P h) (x .0) (x .1) (x .2))) (λ rs c. Collects.scan (x .0) c)
+        (Advance.scan (x .0) (x .1) (see-stack (onPages P h) (x .0) (x .1) (x .2))) (λ rs c. Collects.scans (x .0) c)
     some (inr (inl x)) = let y = globals-event F one x in
         by (record { pages = P; call = ScanGlobals }) Event.scanGlobals refl (y .0) (y .1) (Advance.globals (see-globals (onPages P h) x)) (λ rs c. Collects.globals c)
     some (inr (inr x)) = let y = mark-event F one x in
-        by (record { pages = P; call = MarkStep }) Event.markStep refl (y .0) (y .1) Advance.step (λ rs c. Collects.step c)
+        by (record { pages = P; call = MarkStep }) Event.markStep refl (y .0) (y .1) Advance.step (λ rs c. Collects.marks c)
 
 -- THE MARK PHASE: k is at least what is left to mark
 pub record Finishing (P k : ℕ) (h : Heap) : Type 0 where

@@ -39,7 +39,7 @@ use Rattle.model.proofs.Audit.{sized}
 use Rattle.keeps.proofs.Fresh.{fresh-kept}
 use Rattle.history.specs.Ledger.{onPages}
 use Rattle.history.specs.Demand.{setupOf, eventOn, Stage, sweepStage, stages, eventsOf, endOf, fed, ledger, Matches, FreePage, Pages, Subject, subject, Answered, freesIn, freed, Cycle, Demand}
-use Rattle.history.specs.Beyond.{Marking, Whole, markingEvents, ledgerAtStart, ledgerAtFinish, heapAtFinish, isAllocated, isMarked, allocatedIn, Beyond}
+use Rattle.history.specs.Beyond.{Marking, Whole, markingEvents, ledgerAtStart, ledgerAtFinish, heapAtFinish, isAllocated, isMarked, allocatedIn, Beyond, AfterSetup}
 use Rattle.history.proofs.Fresh.{fresh-view}
 use Rattle.history.proofs.View.{view, wordsAt}
 use Rattle.history.proofs.Steps.{Said}
@@ -150,7 +150,7 @@ module _ (P : ℕ) (h : Heap) (F : Audited (onPages P h)) (Fr : Fresh (view (onP
   frees-at ss A w a = let y = seen in (y .0, y .1, since A (lastBorn (fed ss) (addressOf w)) 0 empty ∙ y .2)
     where
       seen : let x = lastBorn (fed ss) (addressOf w) in (0 < x) × (x ≤ fed ss .count) × (Claim.freedSince x 0 empty (steps A) ≡ 0)
-      seen = unfold view in claim A .frees w a
+      seen = unfold view in claim A .unfreed w a
 
   -- a cycle: its start, the stages between, and its end
   cycle-at : {ss : List Stage} {h′ : Heap} → Along P h ss h′ → (C : Cycle ss) (x : ℕ) → 0 < x → x ≤ fed (C .before) .count → freed P x h (C .before) ≡ 0 →
@@ -167,7 +167,7 @@ module _ (P : ℕ) (h : Heap) (F : Audited (onPages P h)) (Fr : Fresh (view (onP
     matches = matched (onPages P (after h rs)) (claim (R .along) .matches) (reached-at (R .along)) (R .audited);
     pages = paged P (after h rs .table) (R .audited .spans);
     answers = λ p. answer-at (p .before) (p .here);
-    sweeps = λ p e w a b. frees-at (p .before) (at (p .before) (p .here) (p .later) (cut-as (R .along) (p .list)) .before) w a;
+    sweeps = λ p w a b. frees-at (p .before) (at (p .before) (p .here) (p .later) (cut-as (R .along) (p .list)) .before) w a;
     cycles = cycle-at (R .along);
   }
 
@@ -239,8 +239,7 @@ module _ (P : ℕ) (h : Heap) (F : Audited (onPages P h)) (Fr : Fresh (view (onP
   }
 
 -- THE THEOREM: after an accepted setup in any buffers h, for P pages, every list of requests
-pub demand-3 : (h : Heap) (P : ℕ) → T (accepted (step h (setupOf P) .answer)) → (rs : List Request) →
-    Demand P (step h (setupOf P) .heap) rs × Beyond P (step h (setupOf P) .heap) rs
+pub demand-3 : AfterSetup
 unfolding setup fresh _given_
 demand-3 h P t rs = go (goodBuffers (onPages P h)) refl t
   where

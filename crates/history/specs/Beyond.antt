@@ -1,5 +1,6 @@
 -- Beyond demand 3, of the same lists: the heap never damages itself, the work of a cycle is bounded, what it frees is known exactly, and every cycle
--- can be brought to its end. The record `Beyond` is the claim; proofs/Theorem.antt proves it with demand 3.
+-- can be brought to its end. The record `Beyond` is the claim; `AfterSetup`, at the end, says of which lists it and demand 3 hold, and
+-- proofs/Theorem.antt proves that. To be read before it: Demand here, and Claim and Survivors of the crate marking.
 use Prim.Native.Nat.{ℕ, _+_, _≤_, _<_}
 use mathlib.Core.Bool.{Bool, _&&_}
 use mathlib.Core.List.{List, [], _∷_, _++_}
@@ -15,10 +16,10 @@ use Rattle.marking.specs.Survivors.{Saved}
 use Rattle.model.specs.Bounded.{countBelow}
 use Rattle.model.specs.Memory.{Heap, words, phase, wordOf, stackCount, off, mark, sweep}
 use Rattle.model.specs.Bitmaps.{is, allocated, marked}
-use Rattle.model.specs.Calls.{Start, ScanGlobals, MarkStep, Finish, SweepStep, ScanStack, Request, after}
-use Rattle.model.specs.Answers.{refusal, damaged}
+use Rattle.model.specs.Calls.{Start, ScanGlobals, MarkStep, Finish, SweepStep, ScanStack, Request, step, after}
+use Rattle.model.specs.Answers.{refusal, accepted, damaged}
 use Rattle.history.specs.Ledger.{onPages}
-use Rattle.history.specs.Demand.{Stage, stages, eventsOf, endOf, fed, eventOn, Place, answerAt, freesIn, Cycle}
+use Rattle.history.specs.Demand.{setupOf, Stage, stages, eventsOf, endOf, fed, eventOn, Place, answerAt, freesIn, Cycle, Demand}
 
 -- the mark phase of a cycle within the stages ss, from its start to its finish
 pub record Marking (ss : List Stage) : Type 0 where
@@ -77,9 +78,9 @@ allocatedIn h = countBelow (words h) (is allocated h)
 -- scans and mark steps, on buffers of P pages
 pub data Collects (P : ℕ) : List Request → Type 0 where
   none : Collects P []
-  scan : (s : ℕ) {rs : List Request} → Collects P rs → Collects P (record { pages = P; call = ScanStack s } ∷ rs)
+  scans : (s : ℕ) {rs : List Request} → Collects P rs → Collects P (record { pages = P; call = ScanStack s } ∷ rs)
   globals : {rs : List Request} → Collects P rs → Collects P (record { pages = P; call = ScanGlobals } ∷ rs)
-  step : {rs : List Request} → Collects P rs → Collects P (record { pages = P; call = MarkStep } ∷ rs)
+  marks : {rs : List Request} → Collects P rs → Collects P (record { pages = P; call = MarkStep } ∷ rs)
 
 -- the requests that begin a cycle, end its mark phase, and sweep, on buffers of P pages
 abbrev pub startOf : ℕ → Request
@@ -107,10 +108,16 @@ pub record Beyond (P : ℕ) (h : Heap) (rs : List Request) : Type 0 where
   pub exact : (W : Whole (stages h rs)) (x : ℕ) → let M = W .marking in let L = ledgerAtFinish M in let saved = Saved (markingEvents M) (ledgerAtStart M) x in
       let times = freesIn P x L (M .finish .heap) (W .sweeping ++ (W .last ∷ [])) in
       0 < x → x ≤ L .count → T (isAllocated L (heapAtFinish P M) x) → (¬ saved → times ≡ 1) × (saved → times ≡ 0)
-  -- Every cycle can be brought to its end. After the list a start is accepted, or some scans and mark steps, at most one for each stack, one for the
-  -- globals and one for each allocated record, make finish accepted, or some sweep steps, no more than there are pages, leave nothing to sweep.
+  -- Every cycle can be brought to its end. After the list a start is accepted, or some scans and mark steps, in all at most as many as there are
+  -- stacks, one for the globals, and the allocated records, make finish accepted, or some sweep steps, no more than there are pages, leave nothing to
+  -- sweep.
   pub phases : phase (after h rs) ≤ sweep
   pub begins : phase (after h rs) ≡ off → eventOn (after h rs) (startOf P) ≡ Event.start
   pub finishes : phase (after h rs) ≡ mark → (cs : List Request) × Collects P cs × (length cs ≤ stackCount + 1 + allocatedIn (onPages P (after h rs))) ×
       (eventOn (after (after h rs) cs) (finishOf P) ≡ Event.finish)
   pub ends : phase (after h rs) ≡ sweep → (k : ℕ) × (k ≤ P) × (eventOn (after (after h rs) (replicate k (sweepOf P))) (sweepOf P) ≡ Event.endCycle)
+
+-- WHAT IS PROVED: after an accepted setup in any buffers h, for P pages, both claims hold of every list of requests
+abbrev pub AfterSetup : Type 0
+AfterSetup = (h : Heap) (P : ℕ) → T (accepted (step h (setupOf P) .answer)) → (rs : List Request) →
+    Demand P (step h (setupOf P) .heap) rs × Beyond P (step h (setupOf P) .heap) rs

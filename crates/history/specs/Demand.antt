@@ -3,9 +3,11 @@
 -- contracts cite (crate model, specs/Calls.antt); the ledger is in Ledger.antt here and in the crate marking (specs/Ledger.antt there). The record
 -- `Demand` is the claim; proofs/Theorem.antt proves it.
 --
--- Answers go from call to call. The ledger, what is freed, and cycles go from stage to stage: the stages of a call are the sweeps inside it, whether it
--- is accepted or refused then, and the call itself, so that a record counts as freed also where the same call gives its element out again. Each call
--- has one stage as yet, since none sweeps inside.
+-- Answers go from call to call. The ledger, what is freed, and cycles go from stage to stage: the stages of a call are the sweeps inside it
+-- (`sweepsIn` of the model's Calls) and then the call itself, so that a record counts as freed also where the same call gives its element out again.
+-- Each call has one stage as yet, since none sweeps inside.
+--
+-- To be read before it: Calls of the model, Effect, Event and Ledger of the crate marking, and Ledger here.
 use Prim.Native.Nat.{ℕ, _+_, _≤_, _<_}
 use mathlib.Core.Bool.{not, cond}
 use mathlib.Core.List.{List, [], _∷_, _++_, map}
@@ -13,7 +15,7 @@ use mathlib.Core.Logic.{_≢_}
 use mathlib.Core.Path.{_≡_}
 use lib.ListN.{length}
 use lib.Dec.{T, eqb}
-use Rattle.marking.specs.Effect.{lasting, inCycle, isSweep, turnedOff}
+use Rattle.marking.specs.Effect.{lasting, inCycle, turnedOff}
 use Rattle.marking.specs.Event.{Write}
 use Rattle.marking.specs.Event
 use Rattle.marking.specs.Ledger.{Ledger, Event, effect, Each, empty, feed, feedAll, value, ledgerWord, Reachable, lastBorn}
@@ -185,9 +187,8 @@ pub record Demand (P : ℕ) (h : Heap) (rs : List Request) : Type 0 where
   pub pages : Pages P (after h rs .table)
   -- at each of its calls
   pub answers : (p : Place rs) → Answered (subject (eventAt h p)) (answerAt h p) (ledgerAfter h p)
-  -- a sweep, a sweep step or one inside a call, that turns off the allocated bit of word w: a record was born there, and the last of them was not freed
-  -- before
-  pub sweeps : (p : Place (stages h rs)) → T (isSweep (effect (p .here .event))) → (w : ℕ) → T (is allocated (heapBefore P h p) w) → T (not (is allocated (heapAfter P p) w)) →
+  -- a stage, a sweep step above all, that turns off the allocated bit of word w: a record was born there, and the last of them was not freed before
+  pub sweeps : (p : Place (stages h rs)) (w : ℕ) → T (is allocated (heapBefore P h p) w) → T (not (is allocated (heapAfter P p) w)) →
       let L = fed (p .before) in let x = lastBorn L (addressOf w) in (0 < x) × (x ≤ L .count) × (freed P x h (p .before) ≡ 0)
   -- "In a cycle that ends within the list, each record born before the start, not freed and not reachable by then, is freed by exactly one of its
   -- sweep steps.", the sweeps inside its calls among them

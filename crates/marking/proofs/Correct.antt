@@ -111,7 +111,7 @@ pub reached-correct : {H : WordHeap} {L : Ledger} {n : ℕ → ℕ} → Reached 
 reached-correct {H} {L} {n} N = record {
   matches = matches (N .agrees);
   answers = λ s. answers (N .agrees) s;
-  frees = frees (N .agrees) n (N .tally);
+  unfreed = frees (N .agrees) n (N .tally);
   freed = λ {e} {H′} s t w a d. freed (N .agrees) e t H′ w a d;
   works = λ s ss w t. bound (N .agrees) s ss w t;
   cycles = λ s ss w t x h k f u. let b : x < N .state .graph .born = omega (arith, N .agrees .describes .born) in

@@ -68,7 +68,7 @@ pub record Correct (H : WordHeap) (L : Ledger) (n : ℕ → ℕ) : Type 0 where
   pub answers : {e : Event} {H′ : WordHeap} → Step H e H′ → Answers e H′ (feed e L)
   -- "A sweep step that turns off the allocated bit at an address frees the record last born there.": where a bit is on one was
   -- born, and not freed before; a sweep step that turns it off frees that record
-  pub frees : (w : ℕ) → T (H .allocated w) →
+  pub unfreed : (w : ℕ) → T (H .allocated w) →
       (0 < lastBorn L (addressOf w)) × (lastBorn L (addressOf w) ≤ L .count) × (n (lastBorn L (addressOf w)) ≡ 0)
   pub freed : {e : Event} {H′ : WordHeap} → Step H e H′ → T (isSweep (effect e)) → (w : ℕ) → T (H .allocated w) → T (not (H′ .allocated w)) →
       freedIn (lastBorn L (addressOf w)) L H e H′ ≡ 1

@@ -22,7 +22,7 @@ lasting e = not (e is setsUp)
 abbrev pub inCycle : Effect → Bool
 inCycle e = lasting e && not (e is ends)
 
--- a call between a start and its finish, in the mark phase: setups, starts, finishes and sweep steps are none
+-- a call between a start and its finish, in the mark phase: setups, starts, finishes and sweep steps are not such calls
 abbrev pub inMarking : Effect → Bool
 inMarking e = e is none || e is works
 

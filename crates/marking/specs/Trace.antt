@@ -21,7 +21,7 @@ pub record Fresh (H : WordHeap) : Type 0 where
 -- WHAT A CALL DOES, of the heap alone, with what it may assume: whoever connects a concrete heap supplies one of these for each call.
 -- nothing: a refused call, the audit, a mark step that finds none gray. allocate: a record of p pointer words and n words in all at word w, clear of
 -- every allocated element and in a swept span; its words are 0 then, and no other word, element or flag of an allocated one changes. rescanStack,
--- rescanGlobals: a scan of what is scanned already. sweepStep: the words q lie in an unswept span, and what is left of it is still as it was.
+-- rescanGlobals: a scan of what is scanned already. sweepStep: the allocated words of q are unswept, and what is left of them is still as it was.
 pub data Step (H : WordHeap) : Event → WordHeap → Type 0 where
   nothing : Step H Event.nothing H
   setup : (H′ : WordHeap) → Fresh H′ → Step H Event.setup H′

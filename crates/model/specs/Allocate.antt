@@ -26,23 +26,23 @@ spanWithRoom h kind = firstBelow (h .pages) (hasRoom h kind)
 
 -- how many pages from page g on are free, up to the first that is not, in a table of P pages
 unfoldable pub runLength : ℕ → List ℕ → ℕ → ℕ
-runLength p t g = firstBelow (p - g) (λ k. not (isFree t (g + k)))
+runLength P t g = firstBelow (P - g) (λ k. not (isFree t (g + k)))
 
 -- a "maximal run of free pages with at least n" starts at page g
 unfoldable pub isRun : ℕ → List ℕ → ℕ → ℕ → Bool
-isRun p t n g = isFree t g && (g == 0 || not (isFree t (g - 1))) && n ≤? runLength p t g
+isRun P t n g = isFree t g && (g == 0 || not (isFree t (g - 1))) && n ≤? runLength P t g
 
 -- .. and none of them is shorter
 unfoldable pub isShortest : ℕ → List ℕ → ℕ → ℕ → Bool
-isShortest p t n g = isRun p t n g && allBelow p (λ k. isRun p t n k implies runLength p t g ≤? runLength p t k)
+isShortest P t n g = isRun P t n g && allBelow P (λ k. isRun P t n k implies runLength P t g ≤? runLength P t k)
 
 -- "the shortest maximal run of free pages with at least n, among equals the lowest", or P
 unfoldable pub bestRun : ℕ → List ℕ → ℕ → ℕ
-bestRun p t n = firstBelow p (isShortest p t n)
+bestRun P t n = firstBelow P (isShortest P t n)
 
 -- some span is unswept
 unfoldable pub someUnswept : ℕ → List ℕ → Bool
-someUnswept p t = someBelow p (λ s. startsSpan t s && isUnswept t s)
+someUnswept P t = someBelow P (λ s. startsSpan t s && isUnswept t s)
 
 -- there is room for a record of this kind, whose new span would take n pages
 abbrev pub roomFor : Heap → ℕ → ℕ → Bool

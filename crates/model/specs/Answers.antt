@@ -82,7 +82,7 @@ abbrev pub outcome : ℕ → Heap → Answer → Heap → Outcome
 outcome n h a done = record { answer = cond (n == 0) a (Refused n); heap = choose (n == 0) done h }
 
 -- what a call's contract says: its answer, case and numbers, and the four buffers afterwards are the outcome's. (`listed` follows from `answer`; it
--- stands here since "the promises use that definition", `numbers`.)
+-- stands here since "The promises use that definition.", `numbers`.)
 pub record Meets (o : Outcome) (r : Answer) (a t b s : List ℕ) : Type 0 where
   pub answer : r ≡ o .answer
   pub listed : numbers r ≡ numbers (o .answer)

@@ -92,7 +92,8 @@ abbrev pub step : Heap → Request → Outcome
 step h r = run (lent (r .pages) (h .arena) (h .table) (h .bits) (h .roots)) (r .call)
 
 -- A call goes by stages: each sweep inside it leaves a heap, and then the call leaves the heap at its end. The heaps after the sweeps inside a call,
--- in order: none, since no call sweeps inside but a sweep step, which is a call of its own.
+-- in order: none, since no call sweeps inside but a sweep step, which is a call of its own. What demand 3 counts as freed reads these heaps, so a
+-- reader has to believe them as he believes `run`: each is to be the sweep of one span of the heap before it, and the call to go on from the last.
 unfoldable pub sweepsIn : Heap → Call → List Heap
 sweepsIn h c = []
 

@@ -68,7 +68,7 @@ finish h =
 
 -- "the unswept span with the lowest start page", or P
 unfoldable pub firstUnswept : ℕ → List ℕ → ℕ
-firstUnswept p t = firstBelow p (λ s. startsSpan t s && isUnswept t s)
+firstUnswept P t = firstBelow P (λ s. startsSpan t s && isUnswept t s)
 
 -- "Allocated becomes marked, marks go, pointer bits of freed elements go": over the words of the span at page s.
 -- A pointer bit stays where the element that it lies in is marked.

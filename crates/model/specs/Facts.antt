@@ -1,5 +1,6 @@
 -- The audit as facts: what it says when it says yes, in small records, each over only what it reads, so that a call that changes one buffer keeps the
--- others by name. `Audited` joins them; it is what the audited calls require. proofs/Audit.antt turns the test into these facts and back.
+-- others by name. `Audited` joins them; it is what the functions behind the entry check require (no public call requires anything).
+-- proofs/Audit.antt turns the test into these facts and back. Read Audit before it.
 use Prim.Native.Nat.{ℕ, _+_, _-_, _*_, _/_, _%_, _<_, _≤_}
 use mathlib.Core.Bool.{Bool, false, cond}
 use mathlib.Core.List.{List}

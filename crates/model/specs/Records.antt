@@ -7,12 +7,13 @@ use Rattle.model.specs.Checks.{openRefusal, closedRefusal, slotRefusal, 
 use Rattle.model.specs.Shading.{barrier}
 use Rattle.model.specs.declared.Answer.the-variants.{Done, Value}
 
--- "Setup, start and finish answer 0." "Setup zeroes the page table, bitmaps and roots, then sets word 560 to 1. The arena is left alone."
+-- "Setup zeroes the page table, bitmaps and roots, then sets word 560 to 1. The arena is left alone."
 unfoldable pub fresh : Heap → Heap
 fresh h =
     lent (h .pages) (h .arena) (replicate (entryNumbers * h .pages) 0) (replicate (bitmapWords * h .pages) 0)
     (set (replicate rootWords 0) globalsStateAt openState)
 
+-- "Setup, start and finish answer 0."
 unfoldable pub setup : Heap → Outcome
 setup h = record { answer = Done; heap = fresh h }
 

@@ -1,4 +1,4 @@
--- Shading and the barrier. Shading changes the bitmaps alone: here they go in and come out, for a heap of p pages and page table t.
+-- Shading and the barrier. Shading changes the bitmaps alone: here they go in and come out, for a heap of P pages and page table t.
 use Prim.Native.Nat.{ℕ, _*_}
 use mathlib.Core.Bool.{Bool, true, _&&_, not}
 use mathlib.Core.List.{List}
@@ -9,23 +9,23 @@ use Rattle.model.specs.Spans.{isScan, spanOf, recordOf}
 
 -- the value names a record that is not marked
 abbrev pub isWhite : ℕ → List ℕ → ℕ → List ℕ → Bool
-isWhite p t v b = not (v == nil) && not (bitIn (pageWords * p) marked b (recordOf t v))
+isWhite P t v b = not (v == nil) && not (bitIn (pageWords * P) marked b (recordOf t v))
 
 -- "Shading nil or a marked record does nothing; a white record is marked, and made gray if its span is scan."
 unfoldable pub shade : ℕ → List ℕ → ℕ → List ℕ → List ℕ
-shade p t v b =
+shade P t v b =
     let w = recordOf t v in
-    let black = putBit (pageWords * p) marked w true b in
-    if isWhite p t v b then (if isScan t (spanOf t w) then putBit (pageWords * p) gray w true black else black)
+    let black = putBit (pageWords * P) marked w true b in
+    if isWhite P t v b then (if isScan t (spanOf t w) then putBit (pageWords * P) gray w true black else black)
     else b
 
 -- the first n of the values shaded, in order
 unfoldable pub shadeAll : ℕ → List ℕ → ℕ → (ℕ → ℕ) → List ℕ → List ℕ
-shadeAll p t n value b = foldBelow n (λ i. shade p t (value i)) b
+shadeAll P t n value b = foldBelow n (λ i. shade P t (value i)) b
 
 -- how many mark bits that turns on: the values that are white when their turn comes
 unfoldable pub shadeCount : ℕ → List ℕ → ℕ → (ℕ → ℕ) → List ℕ → ℕ
-shadeCount p t n value b = countBelow n (λ i. isWhite p t (value i) (shadeAll p t i value b))
+shadeCount P t n value b = countBelow n (λ i. isWhite P t (value i) (shadeAll P t i value b))
 
 -- "in the mark phase, a store to a record or a global first shades the old value, then the new"
 unfoldable pub barrier : Heap → ℕ → ℕ → List ℕ
