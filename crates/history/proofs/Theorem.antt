@@ -15,12 +15,10 @@ use Rattle.marking.specs.Trace.{Fresh}
 use Rattle.marking.specs.Trace
 use Rattle.marking.specs.Claim
 use Rattle.marking.specs.Survivors.{Saved}
-use Rattle.marking.specs.Survivors
 use Rattle.marking.proofs.Matches
 use Rattle.marking.proofs.Freed.{Reached, reached, reached-step, fresh-reached}
-use Rattle.marking.proofs.Correct
-use Rattle.marking.proofs.Exact
-use Rattle.marking.proofs.Advance.{toMark-bound}
+use Rattle.marking.specs.EveryList.{Claims}
+use Rattle.marking.proofs.EveryList.{every-list}
 use Rattle.marking.proofs.Allocated
 use Rattle.model.specs.Memory.{Heap, words, goodBuffers, wordOf, addressOf, stackCount, slotCount, globalCount}
 use Rattle.model.specs.Answers.{accepted, _given_}
@@ -115,11 +113,8 @@ module _ (P : ℕ) (h : Heap) (F : Audited (onPages P h)) (Fr : Fresh (view (onP
   setting = Trace.Step.setup (view (onPages P h)) Fr
 
   -- the theory's claims after stages
-  claim : {ss : List Stage} {h′ : Heap} (A : Along P h ss h′) → Claim.Correct (view (onPages P h′)) (fed ss) (λ x. Claim.freedSince x 0 empty (steps A))
-  claim A = Correct.correct setting (steps A)
-
-  exact-claim : {ss : List Stage} {h′ : Heap} → Along P h ss h′ → Survivors.Exact (view (onPages P h′)) (fed ss)
-  exact-claim A = Exact.exactly setting (steps A)
+  claims : {ss : List Stage} {h′ : Heap} (A : Along P h ss h′) → Claims (steps A)
+  claims {ss} {h′} A = every-list (view (onPages P h)) (view (onPages P h)) (view (onPages P h′)) (eventsOf ss) setting (steps A)
 
   reached-at : {ss : List Stage} {h′ : Heap} (A : Along P h ss h′) → Reached (view (onPages P h′)) (fed ss) (λ x. Claim.freedSince x 0 empty (steps A))
   reached-at A = reached (steps A) start-reached
@@ -142,7 +137,7 @@ module _ (P : ℕ) (h : Heap) (F : Audited (onPages P h)) (Fr : Fresh (view (onP
       let s : Stage = record { event = eventOn g r; heap = step g r .heap } in
       rw (stages-last h before r, ← (append-assoc (stages h before) (map sweepStage (sweepsOf g r)) (s ∷ [])), fed-last ss s empty)
       (answered (eventOn g r) (step g r .answer) (onPages P (step g r .heap)) (feed (eventOn g r) (fed ss)) (m .happens .said)
-      (claim (join (run-of before .along) (m .sweeps)) .answers (m .happens .step)))
+      (claims (join (run-of before .along) (m .sweeps)) .correct .answers (m .happens .step)))
 
   -- where an allocated bit is on, a record was born, and the last of them was not freed
   frees-at : (ss : List Stage) → Along P h ss (endOf h ss) → (w : ℕ) → T (is allocated (onPages P (endOf h ss)) w) →
@@ -150,7 +145,7 @@ module _ (P : ℕ) (h : Heap) (F : Audited (onPages P h)) (Fr : Fresh (view (onP
   frees-at ss A w a = let y = seen in (y .0, y .1, since A (lastBorn (fed ss) (addressOf w)) 0 empty ∙ y .2)
     where
       seen : let x = lastBorn (fed ss) (addressOf w) in (0 < x) × (x ≤ fed ss .count) × (Claim.freedSince x 0 empty (steps A) ≡ 0)
-      seen = unfold view in claim A .unfreed w a
+      seen = unfold view in claims A .correct .unfreed w a
 
   -- a cycle: its start, the stages between, and its end
   cycle-at : {ss : List Stage} {h′ : Heap} → Along P h ss h′ → (C : Cycle ss) (x : ℕ) → 0 < x → x ≤ fed (C .before) .count → freed P x h (C .before) ≡ 0 →
@@ -159,12 +154,12 @@ module _ (P : ℕ) (h : Heap) (F : Audited (onPages P h)) (Fr : Fresh (view (onP
       let s = at (C .before) (C .first) (C .between ++ (C .last ∷ C .later)) (cut-as A (C .list)) in
       let t = at (C .between) (C .last) (C .later) (s .later) in
       to-end (t .before) x (fed (C .before)) (C .last) (C .ends)
-      ∙ claim (s .before) .cycles (step-as P (endOf h (C .before)) (C .first .heap) (C .starts) (s .here)) (steps (t .before)) (C .lasts)
+      ∙ claims (s .before) .correct .cycles (step-as P (endOf h (C .before)) (C .first .heap) (C .starts) (s .here)) (steps (t .before)) (C .lasts)
       (step-as P (endOf (C .first .heap) (C .between)) (C .last .heap) (C .ends) (t .here)) x z k (sym (since (s .before) x 0 empty) ∙ f) u
 
   pub demand : (rs : List Request) → Demand P h rs
   demand rs = let R = run-of rs in record {
-    matches = matched (onPages P (after h rs)) (claim (R .along) .matches) (reached-at (R .along)) (R .audited);
+    matches = matched (onPages P (after h rs)) (claims (R .along) .correct .matches) (reached-at (R .along)) (R .audited);
     pages = paged P (after h rs .table) (R .audited .spans);
     answers = λ p. answer-at (p .before) (p .here);
     sweeps = λ p w a b. frees-at (p .before) (at (p .before) (p .here) (p .later) (cut-as (R .along) (p .list)) .before) w a;
@@ -200,14 +195,14 @@ module _ (P : ℕ) (h : Heap) (F : Audited (onPages P h)) (Fr : Fresh (view (onP
   work-at A M = let m = marks A M in
       omega (
         arith,
-        claim (m .before) .works (m .start) (steps (m .between)) (M .lasts) (m .finish),
+        claims (m .before) .correct .works (m .start) (steps (m .between)) (M .lasts) (m .finish),
         records-counted (heapAtFinish P M) (reached (steps (m .between)) (from-start (m .before) (M .first .heap) (m .start) .1)),
       )
 
   marked-at : {ss : List Stage} {h′ : Heap} → Along P h ss h′ → (M : Marking ss) (x : ℕ) → let L = ledgerAtFinish M in
       let saved = Saved (markingEvents M) (ledgerAtStart M) x in
       0 < x → x ≤ L .count → (T (isMarked L (heapAtFinish P M) x) → saved) × (saved → T (isMarked L (heapAtFinish P M) x))
-  marked-at A M x z k = let m = marks A M in unfold view in exact-claim (m .before) .marked (m .start) (steps (m .between)) (M .lasts) (m .finish) x z k
+  marked-at A M x z k = let m = marks A M in unfold view in claims (m .before) .exact .marked (m .start) (steps (m .between)) (M .lasts) (m .finish) x z k
 
   exact-at : {ss : List Stage} {h′ : Heap} → Along P h ss h′ → (W : Whole ss) (x : ℕ) → let M = W .marking in let L = ledgerAtFinish M in
       let saved = Saved (markingEvents M) (ledgerAtStart M) x in let times = freesIn P x L (M .finish .heap) (W .sweeping ++ (W .last ∷ [])) in
@@ -217,7 +212,7 @@ module _ (P : ℕ) (h : Heap) (F : Audited (onPages P h)) (Fr : Fresh (view (onP
       let m = marks A M in
       let t = at (W .sweeping) (W .last) (W .rest) (subst (λ (l : List Stage). Along P (W .marking .finish .heap) l h′) (W .later) (m .later)) in
       let e = step-as P (endOf (W .marking .finish .heap) (W .sweeping)) (W .last .heap) (W .ends) (t .here) in
-      let r = exact-claim (m .before) .freed (m .start) (steps (m .between)) (M .lasts) (m .finish) (steps (t .before)) (W .sweeps) e x z k
+      let r = claims (m .before) .exact .freed (m .start) (steps (m .between)) (M .lasts) (m .finish) (steps (t .before)) (W .sweeps) e x z k
       (seen-allocated (ledgerAtFinish (W .marking)) (heapAtFinish P (W .marking)) x a) in
       let q = to-end (t .before) x (ledgerAtFinish (W .marking)) (W .last) (W .ends) in
       (λ u. q ∙ r .0 u, λ u. q ∙ r .1 u)
@@ -232,7 +227,7 @@ module _ (P : ℕ) (h : Heap) (F : Audited (onPages P h)) (Fr : Fresh (view (onP
     phases = R .audited .states .phase;
     begins = λ e. begin-event P (after h rs) (run-of rs .audited) e;
     finishes = λ e. let x = finishing P (stackCount + 1 + allocatedIn (onPages P (after h rs))) (after h rs) (run-of rs .audited) (reached-at (run-of rs .along)) e
-        (omega (arith, toMark-bound stackCount (ledger h rs) (view (onPages P (after h rs))), records-counted (onPages P (after h rs)) (reached-at (run-of rs .along)))) in
+        (omega (arith, claims (run-of rs .along) .advancing .toMarkBound stackCount, records-counted (onPages P (after h rs)) (reached-at (run-of rs .along)))) in
         (x .calls, x .collects, x .short, x .finish);
     ends = λ e. let x = ending P P (after h rs) (run-of rs .audited) (reached-at (run-of rs .along)) e
         (count-le P (λ s. startsSpan (after h rs .table) s && isUnswept (after h rs .table) s)) in (x .steps, x .few, x .end);

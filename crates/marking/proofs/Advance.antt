@@ -29,7 +29,7 @@ use Rattle.marking.proofs.Matches.{at-is}
 use Rattle.marking.proofs.Freed.{isAllocated-is}
 use Rattle.marking.specs.Advance.{isBlack, toMark, toSweep, Advances, scan, globals, step, Advancing}
 
-pub toMark-bound : (n : ℕ) (L : Ledger) (H : WordHeap) → toMark n L H ≤ n + 1 + count (isAllocated L H) (suc (L .count))
+toMark-bound : (n : ℕ) (L : Ledger) (H : WordHeap) → toMark n L H ≤ n + 1 + count (isAllocated L H) (suc (L .count))
 unfolding toMark
 toMark-bound n L H = omega (
   arith,
@@ -42,7 +42,7 @@ toMark-bound n L H = omega (
     one true = omega arith
     one false = omega arith
 
-pub toSweep-bound : (L : Ledger) (H : WordHeap) → toSweep L H ≤ count (isAllocated L H) (suc (L .count))
+toSweep-bound : (L : Ledger) (H : WordHeap) → toSweep L H ≤ count (isAllocated L H) (suc (L .count))
 unfolding toSweep
 toSweep-bound L H = count-le (λ x. isAllocated L H x && H .unswept (wordOf (L .address x))) (isAllocated L H) (suc (L .count))
     (λ x _ _ t. and-left (isAllocated L H x) _ t)
@@ -127,4 +127,9 @@ sweep-advance {H} {H′} {L} {S} {Y} R (Trace.sweepStep q E A p d c) w a u n = g
 
 -- THE THEOREM, of a heap that agrees with a ledger
 pub advancing : {H : WordHeap} {L : Ledger} {S : State} {Y : Layout} → Agrees H L S Y → Advancing H L
-advancing R = record { marks = λ n p s a. advance R p n s a; sweeps = λ s w a u n. sweep-advance R s w a u n }
+advancing {H} {L} R = record {
+  toMarkBound = λ n. toMark-bound n L H;
+  toSweepBound = toSweep-bound L H;
+  marks = λ n p s a. advance R p n s a;
+  sweeps = λ s w a u n. sweep-advance R s w a u n;
+}

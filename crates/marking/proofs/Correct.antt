@@ -117,8 +117,3 @@ reached-correct {H} {L} {n} N = record {
   cycles = λ s ss w t x h k f u. let b : x < N .state .graph .born = omega (arith, N .agrees .describes .born) in
       cycle (N .agrees) s ss w t x h b (one-true (N .state .allocated x) (omega (arith, N .tally x h .0 b, f))) u;
 }
-
--- THE THEOREM: after a setup and any list of calls
-pub correct : {H₀ H₁ H₂ : WordHeap} {es : List Event} → Step H₀ Event.setup H₁ → (ss : Steps H₁ es H₂) →
-    Correct H₂ (feedAll es empty) (λ x. freedSince x 0 empty ss)
-correct (setup H₁ F) ss = reached-correct (reached ss (fresh-reached H₁ F))

@@ -304,7 +304,3 @@ reached-exact {H} {L} R = record { marked = marked; freed = freed }
         let l : x < N .state .graph .born = omega (arith, N .agrees .describes .born) in
         let b = rw (isAllocated-is (N .agrees) x z l) at a in
         (frees-lost (N .agrees) (N .marks) (N .saving) (B .allowed) B ss w t x z l b, frees-saved (N .agrees) (N .marks) (N .saving) (B .allowed) B ss w t x z l b)
-
--- THE THEOREM: after a setup and any list of calls
-pub exactly : {H₀ H₁ H₂ : WordHeap} {es : List Event} → Step H₀ Event.setup H₁ → Steps H₁ es H₂ → Exact H₂ (feedAll es empty)
-exactly (Trace.setup H₁ F) ss = reached-exact (reached ss (fresh-reached H₁ F) .agrees)

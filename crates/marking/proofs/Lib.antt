@@ -1,4 +1,4 @@
--- How the statements of specs/ are proved: Correct.correct, Exact.exactly and Advance.advancing are the theorems.
+-- How the statements of specs/ are proved: EveryList.every-list is the theorem, from Correct, Exact and Advance.
 --
 -- An abstract state (Graph, Colours, Operations), in which a record is the number of its birth, has an invariant that every operation keeps (Safety),
 -- so that what can be reached is kept; Cycle counts what a cycle frees, Work and Progress what marking has done and has left to do. A heap that
@@ -33,4 +33,5 @@ pub mod Correct
 pub mod Saving
 pub mod Exact
 pub mod Advance
+pub mod EveryList
 pub mod Allocated

@@ -3,7 +3,7 @@
 -- most the allocated records (proofs/Advance.antt, which proves the claim). Read Claim before it.
 use mathlib.Core.Bool.{Bool, not, _&&_}
 use mathlib.Core.Path.{_≡_}
-use Prim.Native.Nat.{ℕ, suc, _+_, _<_}
+use Prim.Native.Nat.{ℕ, suc, _+_, _≤_, _<_}
 use lib.Dec.{T}
 use Rattle.model.specs.Bounded.{countBelow}
 use Rattle.model.specs.Memory.{wordOf}
@@ -38,6 +38,9 @@ pub data Advances (n : ℕ) (H : WordHeap) : Event → Type 0 where
 
 -- THE CLAIM of a heap H that a list of calls has left, where L is the ledger
 pub record Advancing (H : WordHeap) (L : Ledger) : Type 0 where
+  -- what is left to mark, of n stacks, and to sweep
+  pub toMarkBound : (n : ℕ) → toMark n L H ≤ n + 1 + count (isAllocated L H) (suc (L .count))
+  pub toSweepBound : toSweep L H ≤ count (isAllocated L H) (suc (L .count))
   -- in the mark phase, of n stacks
   pub marks : (n : ℕ) {e : Event} {H′ : WordHeap} → H .phase ≡ WordHeap.mark → Step H e H′ → Advances n H e → toMark n (feed e L) H′ < toMark n L H
   -- in the sweep phase: where an allocated word is unswept before a sweep step and not after it

@@ -30,6 +30,7 @@ Saves (writes (storeGlobal s g i)) L x = From L (L .global g) x ⊎ From L (L .s
 Saves (writes (put s j f v)) L x = ⊥
 Saves (writes (allocate s i p n a)) L x = x ≡ suc (L .count)
 Saves (get s j f) L x = ⊥
+-- a scan, a scan of what is scanned already too: such a stack's slots hold only what is saved by the finish anyway
 Saves (scanStack s) L x = (i : ℕ) × From L (L .slot s i) x
 Saves scanGlobals L x = (g : ℕ) × From L (L .global g) x
 Saves (does c) L x = ⊥
