@@ -12,7 +12,7 @@ use Rattle.model.specs.Audit.{audit}
 use Rattle.model.proofs.Tests.{is-true, same-test}
 use Rattle.model.specs.Facts.{Spans, Sized, Bits, Phases, States, Occupied, Audited}
 use Rattle.model.proofs.Audit.{audit-facts, facts-audit}
-use Rattle.audit_pages.specs.Pages.{Pages}
+use Rattle.audit_pages.specs.Pages.{GoodPages}
 use Rattle.audit_bits.specs.Needs.{Lent}
 use Rattle.audit_words.specs.Contents.{Spanned, Filled, Swept, Told, Roots, Contents}
 
@@ -40,7 +40,7 @@ module _ (h : Heap) (Z : Sized h) where
   pub filled : Spans (h .pages) (h .table) → Bits (h .pages) (h .table) (h .bits) → Filled (h .pages) (h .arena) (h .table) (h .bits)
   filled F B = record { spanned = spanned F; arena = Z .arena; set = B }
 
-  pub joined : States (h .roots) → Pages (h .pages) (getD (h .roots) phaseAt 0) (h .table) →
+  pub joined : States (h .roots) → GoodPages (h .pages) (getD (h .roots) phaseAt 0) (h .table) →
       Bits (h .pages) (h .table) (h .bits) × Phases (h .pages) (getD (h .roots) phaseAt 0) (h .table) (h .bits) → Occupied (h .pages) (h .table) (h .bits) →
       Roots (h .pages) (h .table) (h .bits) (h .roots) → Contents (h .pages) (h .arena) (h .table) (h .bits) → Audited h
   joined S F B O R C =
@@ -51,5 +51,5 @@ pub told : (phase : ℕ) (t : List ℕ) → (phase ≢ 2 → Swept t) → Told (
 told phase t h e = h (eqb-false phase 2 (not-true (eqb phase 2) e))
 
 -- what the page table's part says of an audited heap
-pub paged : (h : Heap) → Audited h → Pages (h .pages) (getD (h .roots) phaseAt 0) (h .table)
+pub paged : (h : Heap) → Audited h → GoodPages (h .pages) (getD (h .roots) phaseAt 0) (h .table)
 paged h F = record { spans = F .spans; swept = F .phases .swept }

@@ -2,8 +2,8 @@
 use Prim.Native.Nat.{ℕ}
 use mathlib.Core.List.{List}
 use Rattle.model.specs.Memory.{Heap}
-use Rattle.model.specs.Facts.{Sized, Spans, Bits, Audited}
-use Rattle.model.specs.Lent.{Bitmaps, Tables, Mapped, Consistent}
+use Rattle.model.specs.Facts.{Sized, Spans, IsSpan, Bits, Audited}
+use Rattle.model.specs.Lent.{Bitmaps, Tables, Mapped, MappedSpan, Consistent}
 
 -- the lengths, with what is known of the page table, and of the bits
 pub sized-mapped : {h : Heap} → Sized h → Spans (h .pages) (h .table) → Mapped (h .pages) (h .table) (h .bits)
@@ -21,6 +21,10 @@ audited-mapped A = sized-mapped (A .sized) (A .spans)
 
 pub audited-tables : {h : Heap} → Audited h → Tables (h .pages) (h .table) (h .bits)
 audited-tables A = record { few = A .sized .high; table = A .sized .table; bits = A .sized .bits }
+
+-- a span
+pub mapped-span : {p : ℕ} {t b : List ℕ} → Mapped p t b → (s : ℕ) → IsSpan t s → MappedSpan p t b s
+mapped-span M s e = record { few = M .few; table = M .table; bits = M .bits; spans = M .spans; first = e }
 
 -- less of it
 pub consistent-mapped : {p : ℕ} {t b : List ℕ} → Consistent p t b → Mapped p t b
