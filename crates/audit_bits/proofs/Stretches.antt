@@ -37,7 +37,7 @@ abbrev pub Edge : List ℕ → ℕ → Type 0
 Edge t g = (h : ℕ) → g ≤ h → 0 < owner t h → g ≤ owner t h - 1
 
 -- the next such page
-pub record Next (P : ℕ) (t : List ℕ) (g : ℕ) : Type 0 where
+pub record NextStretch (P : ℕ) (t : List ℕ) (g : ℕ) : Type 0 where
   pub edge : Edge t (g + stretch t g)
   pub inside : g + stretch t g ≤ P
   pub some : 0 < stretch t g
@@ -55,10 +55,10 @@ module _ {P : ℕ} {t : List ℕ} (F : Spans P t) where
   pub edge-begins : (g : ℕ) → g < P → Edge t g → Begins P t g
   edge-begins g l e = record { low = l; first = λ u. omega (arith, e g (omega arith) u, F .whose g u .1) }
 
-  pub next : (g : ℕ) → Edge t g → Begins P t g → Next P t g
+  pub next : (g : ℕ) → Edge t g → Begins P t g → NextStretch P t g
   next g e B = go (eqb (owner t g) 0) refl
     where
-      go : (c : Bool) → eqb (owner t g) 0 ≡ c → Next P t g
+      go : (c : Bool) → eqb (owner t g) 0 ≡ c → NextStretch P t g
       go true p = record { edge = edge; inside = rw p (omega (arith, B .low)); some = rw p (omega arith) }
         where
           edge : Edge t (g + stretch t g)
