@@ -8,12 +8,13 @@ ghost use lib.ListN.{getD};
 ghost use Rattle.model.specs.Memory.{lent};
 ghost use Rattle.model.specs.Spans.{isScan, spanOf};
 ghost use Rattle.model.specs.Shading.{barrier};
-ghost use Rattle.shading.specs.Needs.{Scanned, Shadable, Stored, Each, Shades, ShadesAll};
+ghost use Rattle.model.specs.Lent.{WordEntries};
+ghost use Rattle.shading.specs.Needs.{Shadable, Stored, ShadableSlice, Shades, ShadesAll};
 use units::Address;
 
 // Word w lies in a scan span.
 fn in_scan_span(table: &[u32], w: usize) -> bool
-    requires { ⌜ Scanned (now table) w ⌝ }
+    requires { ⌜ WordEntries (now table) w ⌝ }
     ensures { λ r. ⌜ r ≡ isScan (now (table .entry)) (spanOf (now (table .entry)) w) ⌝ }
 {
     let s = pages::span_of_word(table, w);
@@ -62,7 +63,7 @@ pub fn shade_slice(
     from: usize,
     n: usize,
 ) -> u64
-    requires { ⌜ Each p (now table) (now bits) (now words) from n ⌝ }
+    requires { ⌜ ShadableSlice p (now table) (now bits) (now words) from n ⌝ }
     ensures { λ r. ⌜ ShadesAll p (now (table .entry)) n (λ i. getD (now (words .entry)) (from + i) 0) (now (bits .entry)) r (now (bits .exit)) ⌝ }
 {
     let mut k = 0;
