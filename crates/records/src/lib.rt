@@ -1,12 +1,11 @@
 // The calls on records: a pointer word is loaded into a slot or stored from one, a number is put or
 // got; and a slot is stored to a global, which has the barrier too. Each asks the function that
 // gives its refusal, 0 where there is none, and then does its work. They are taken after the audit.
-ghost use mathlib.Core.List.{List};
-ghost use Prim.Native.Nat.{ℕ};
 ghost use Rattle.model.specs.Memory.{lent};
 ghost use Rattle.model.specs.Answers.{Meets};
 ghost use Rattle.model.specs.Records.{load, store, put, get, storeGlobal};
 ghost use Rattle.model.specs.Facts.{Audited};
+ghost use Rattle.model.specs.Lent.{MeetsWithoutArena};
 ghost use Rattle.fields.specs.Needs.{Rooted};
 use model::Answer;
 
@@ -122,7 +121,7 @@ pub fn store_global(
     i: u64,
 ) -> Answer
     requires { ⌜ Rooted p (now table) (now bits) (now roots) ⌝ }
-    ensures { λ r. ⌜ ((a : List ℕ) → Meets (storeGlobal (lent p a (now (table .entry)) (now (bits .entry)) (now (roots .entry))) s g i) r a (now (table .entry)) (now (bits .exit)) (now (roots .exit))) ⌝ }
+    ensures { λ r. ⌜ MeetsWithoutArena (λ h. storeGlobal h s g i) p (now (table .entry)) (now (bits .entry)) (now (roots .entry)) r (now (table .entry)) (now (bits .exit)) (now (roots .exit)) ⌝ }
 {
     let n = root_checks::global_refusal(roots, s, i, g);
     if n != 0 {
