@@ -11,13 +11,14 @@ ghost use Rattle.model.specs.Classes.{maxSize, classOf, kindOf, pagesFor, eleme
 ghost use Rattle.model.specs.Spans.{putPages, spanPage};
 ghost use Rattle.model.specs.Allocate.{newBits, allocate};
 ghost use Rattle.model.specs.Facts.{Audited};
-ghost use Rattle.allocate.specs.Needs.{Extends, Marks, Takes, Taken};
+ghost use Rattle.span_entries.specs.Needs.{NewEntries};
+ghost use Rattle.allocate.specs.Needs.{Marks, ElementFor, ElementTaken};
 use model::Answer;
 use units::Word;
 
 // Makes the span of a record at word w, if it is still to be made.
 fn extend(table: &mut [u32], fresh: bool, w: usize, size: u64, pointers: u64)
-    requires { ⌜ (fresh ≡ true → Extends (now table) w size) ⌝ }
+    requires { ⌜ (fresh ≡ true → NewEntries (now table) (pageOf w) (pagesFor size)) ⌝ }
     ensures { λ r. ⌜ now (table .exit) ≡ cond fresh (putPages (pageOf w) (pagesFor size) (spanPage (pageOf w) (pagesFor size) (kindOf size pointers)) (now (table .entry))) (now (table .entry)) ⌝ }
 {
     if !fresh {
@@ -63,8 +64,8 @@ fn take(
     pointers: usize,
     slot: usize,
 ) -> u64
-    requires { ⌜ Takes p w size pointers slot (now arena) (now bits) (now roots) ⌝ }
-    ensures { λ r. ⌜ ((t : List ℕ) → Taken (lent p (now (arena .entry)) t (now (bits .entry)) (now (roots .entry))) w size pointers slot r (now (arena .exit)) (now (bits .exit)) (now (roots .exit))) ⌝ }
+    requires { ⌜ ElementFor p w size pointers slot (now arena) (now bits) (now roots) ⌝ }
+    ensures { λ r. ⌜ ((t : List ℕ) → ElementTaken (lent p (now (arena .entry)) t (now (bits .entry)) (now (roots .entry))) w size pointers slot r (now (arena .exit)) (now (bits .exit)) (now (roots .exit))) ⌝ }
 {
     zero_element(arena, w, size);
     mark_new(p, bits, roots, w, pointers);
