@@ -7,10 +7,9 @@ ghost use Prim.Native.Nat.{ℕ, _*_};
 ghost use Rattle.model.specs.Memory.{lent, pageWords, firstWord};
 ghost use Rattle.model.specs.Bitmaps.{bitIn, putBits, marked, pointer};
 ghost use Rattle.model.specs.Spans.{pageCount, elementStart, elementNumber};
-ghost use Rattle.model.specs.Answers.{Meets};
 ghost use Rattle.model.specs.Cycle.{sweptBits, sweepStep};
-ghost use Rattle.model.specs.Facts.{Audited};
-ghost use Rattle.sweeping.specs.Spans.{Sweepable, SweepsSpan};
+ghost use Rattle.model.specs.Lent.{AuditedWithoutArena, MeetsWithoutArena};
+ghost use Rattle.sweeping.specs.Needs.{Sweepable, SweepsSpan};
 use model::Answer;
 use units::PAGE_BLOCKS;
 
@@ -70,8 +69,8 @@ fn sweep_span(p: usize, table: &mut [u32], bits: &mut [u64], s: usize) -> Answer
 
 // One sweep step: the lowest unswept span is swept; where there is none the cycle ends.
 pub fn sweep_step(p: usize, table: &mut [u32], bits: &mut [u64], roots: &mut [u64]) -> Answer
-    requires { ⌜ ((a : List ℕ) × Audited (lent p a (now table) (now bits) (now roots))) ⌝ }
-    ensures { λ r. ⌜ ((a : List ℕ) → Meets (sweepStep (lent p a (now (table .entry)) (now (bits .entry)) (now (roots .entry)))) r a (now (table .exit)) (now (bits .exit)) (now (roots .exit))) ⌝ }
+    requires { ⌜ AuditedWithoutArena p (now table) (now bits) (now roots) ⌝ }
+    ensures { λ r. ⌜ MeetsWithoutArena (λ h. sweepStep h) p (now (table .entry)) (now (bits .entry)) (now (roots .entry)) r (now (table .exit)) (now (bits .exit)) (now (roots .exit)) ⌝ }
 {
     if roots[units::PHASE] != units::SWEEP {
         return Answer::Refused(units::WRONG_PHASE);
