@@ -57,8 +57,8 @@ pub record Passed (t : ℕ → Bool) (at z : ℕ) : Type 0 where
   pub none : None t (at * 64 + z)
   pub holds : z < 64 → t (at * 64 + z) ≡ true
 
-pub scan : (t : ℕ → Bool) (at w : ℕ) → WordOf at t w → None t (at * 64) → Passed t at (trailingZeros 64 w)
-scan t at w f n = record { cap = p .within; none = λ i l. go i l (ltb i (at * 64)) refl; holds = λ l. sym (same _ l) ∙ p .holds l }
+pub scan-word : (t : ℕ → Bool) (at w : ℕ) → WordOf at t w → None t (at * 64) → Passed t at (trailingZeros 64 w)
+scan-word t at w f n = record { cap = p .within; none = λ i l. go i l (ltb i (at * 64)) refl; holds = λ l. sym (same _ l) ∙ p .holds l }
   where
     p : First 64 (λ k. eqb (bitOf w k) 1) (trailingZeros 64 w)
     p = trailing-first 64 w

@@ -15,7 +15,7 @@ use Rattle.model.specs.Bitmaps.{bitOf, bitAt}
 use Rattle.model.specs.Bounded.{firstBelow}
 use Rattle.model.proofs.Bounded.{first-is}
 use Rattle.model.proofs.Bitmaps.{bit-shifted, bit-all}
-use Rattle.bitmap.proofs.Scan.{WordOf, None, Passed, word-at, word-and, scan, both}
+use Rattle.bitmap.proofs.Scan.{WordOf, None, Passed, word-at, word-and, scan-word, both}
 
 -- the mask has the bits from `from` on in word number `at`, which is the word of `from` or one after it
 pub record Masked (from at mask : ℕ) : Type 0 where
@@ -43,7 +43,7 @@ none-passed t from i l = rw (lt-leb from i (omega arith)) (and-false (t i))
 -- one word w of the bits that pass, masked
 pub scan-from : (t : ℕ → Bool) (w : ℕ) {from at mask : ℕ} → WordOf at t w → Masked from at mask → None (passFrom t from) (at * 64) →
     Passed (passFrom t from) at (trailingZeros 64 (bitAnd w mask))
-scan-from t w {from} {at} {mask} f m n = scan (passFrom t from) at _ (word-and at t (leb from) w mask f (m .word)) n
+scan-from t w {from} {at} {mask} f m n = scan-word (passFrom t from) at _ (word-and at t (leb from) w mask f (m .word)) n
 
 -- .. where the set bits pass
 pub scan-set : (ws : List ℕ) {from at mask : ℕ} → Masked from at mask → None (passFrom (bitAt ws) from) (at * 64) →

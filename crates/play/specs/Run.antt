@@ -22,7 +22,7 @@ pub record ProgramMemory (a t b s o : List ℕ) : Type 0 where
   pub out : length o ≡ blockBytes
 
 -- how far the run is lies within that memory, and within the line under way
-pub record Within (r : Progress) : Type 0 where
+pub record InRange (r : Progress) : Type 0 where
   pub pages : r .pages ≤ mostPages
   pub used : r .used ≤ longestLine
   pub at : r .at ≤ blockBytes

@@ -7,7 +7,7 @@ ghost use Rattle.lines.specs.Lines.{longestLine};
 ghost use Rattle.line_buffer.specs.Split.{Short};
 ghost use Rattle.answers.specs.Text.{longestAnswer};
 ghost use Rattle.trace.specs.Play.{mostPages};
-ghost use Rattle.play.specs.Run.{blockBytes, ProgramMemory, Within};
+ghost use Rattle.play.specs.Run.{blockBytes, ProgramMemory, InRange};
 use line_buffer::Taken;
 
 const STDIN: i32 = 0;
@@ -36,7 +36,7 @@ fn play_first(
 ) -> Progress
     requires { ⌜ ProgramMemory (now arena) (now table) (now bits) (now roots) (now out) ⌝ }
     requires { ⌜ at + longestAnswer ≤ blockBytes ⌝ }
-    ensures { λ r. ⌜ Within r ⌝ }
+    ensures { λ r. ⌜ InRange r ⌝ }
 {
     let p = trace::pages(line);
     let n = p as usize;
@@ -75,7 +75,7 @@ fn play_later(
 ) -> Progress
     requires { ⌜ ProgramMemory (now arena) (now table) (now bits) (now roots) (now out) ⌝ }
     requires { ⌜ (p ≤ mostPages) × (at + longestAnswer ≤ blockBytes) ⌝ }
-    ensures { λ r. ⌜ Within r ⌝ }
+    ensures { λ r. ⌜ InRange r ⌝ }
 {
     let n = p as usize;
     let words = units::PAGE_WORDS * n;
@@ -124,8 +124,8 @@ fn play_line(
     run: Progress,
 ) -> Progress
     requires { ⌜ ProgramMemory (now arena) (now table) (now bits) (now roots) (now out) ⌝ }
-    requires { ⌜ Within run ⌝ }
-    ensures { λ r. ⌜ Within r ⌝ }
+    requires { ⌜ InRange run ⌝ }
+    ensures { λ r. ⌜ InRange r ⌝ }
 {
     let at = room(out, run.at);
     if run.lines == 0 {
@@ -137,7 +137,7 @@ fn play_line(
 
 // Before the first line.
 fn begun() -> Progress
-    ensures { λ r. ⌜ Within r ⌝ }
+    ensures { λ r. ⌜ InRange r ⌝ }
 {
     Progress {
         pages: 0,
@@ -150,8 +150,8 @@ fn begun() -> Progress
 
 // The run with so many bytes of the line under way.
 fn paused(run: Progress, used: usize, more: bool) -> Progress
-    requires { ⌜ Within run × (used ≤ longestLine) ⌝ }
-    ensures { λ r. ⌜ Within r ⌝ }
+    requires { ⌜ InRange run × (used ≤ longestLine) ⌝ }
+    ensures { λ r. ⌜ InRange r ⌝ }
 {
     Progress {
         pages: run.pages,
@@ -165,8 +165,8 @@ fn paused(run: Progress, used: usize, more: bool) -> Progress
 // What is left of a block behind its last line: the line under way, or one that is too long, which
 // ends the run.
 fn left_over(run: Progress, taken: Taken) -> Progress
-    requires { ⌜ Within run × Short taken ⌝ }
-    ensures { λ r. ⌜ Within r ⌝ }
+    requires { ⌜ InRange run × Short taken ⌝ }
+    ensures { λ r. ⌜ InRange r ⌝ }
 {
     match taken {
         Taken::Line(_, _) => run,
@@ -187,8 +187,8 @@ fn feed(
     from: Progress,
 ) -> Progress
     requires { ⌜ ProgramMemory (now arena) (now table) (now bits) (now roots) (now out) ⌝ }
-    requires { ⌜ Within from × (length (now line) ≡ longestLine) ⌝ }
-    ensures { λ r. ⌜ Within r ⌝ }
+    requires { ⌜ InRange from × (length (now line) ≡ longestLine) ⌝ }
+    ensures { λ r. ⌜ InRange r ⌝ }
 {
     let mut run = from;
     let mut used = from.used;
@@ -207,8 +207,8 @@ fn feed(
 
 // What waits is written.
 fn flushed(out: &[u8], run: Progress) -> Progress
-    requires { ⌜ Within run × (length (now out) ≡ blockBytes) ⌝ }
-    ensures { λ r. ⌜ Within r ⌝ }
+    requires { ⌜ InRange run × (length (now out) ≡ blockBytes) ⌝ }
+    ensures { λ r. ⌜ InRange r ⌝ }
 {
     let at = run.at;
     io::write_all(STDOUT, &out[..at]);
@@ -224,7 +224,7 @@ fn flushed(out: &[u8], run: Progress) -> Progress
 // The end of the run: what waits is written. A line under way does not read, nor does an input with
 // no line at all.
 fn end(out: &mut [u8], run: Progress)
-    requires { ⌜ Within run × (length (now out) ≡ blockBytes) ⌝ }
+    requires { ⌜ InRange run × (length (now out) ≡ blockBytes) ⌝ }
 {
     let at = run.at;
     io::write_all(STDOUT, &out[..at]);

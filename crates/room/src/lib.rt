@@ -17,7 +17,7 @@ use units::Page;
 
 // Where a record goes: the refusal, or 0 and the record's first word; `fresh` says that its span is
 // still to be made.
-pub struct Choice {
+pub struct RecordPlace {
     pub refusal: u64,
     pub word: usize,
     pub fresh: bool,
@@ -54,10 +54,10 @@ fn no_room(p: usize, table: &[u32], roots: &[u64]) -> u64
 }
 
 // A place where there is none.
-fn refused(number: u64) -> Choice
+fn refused(number: u64) -> RecordPlace
     ensures { λ r. ⌜ r .refusal ≡ number ⌝ }
 {
-    Choice {
+    RecordPlace {
         refusal: number,
         word: 0,
         fresh: false,
@@ -66,7 +66,7 @@ fn refused(number: u64) -> Choice
 
 // The place of a record of the kind, whose new span would take n pages: the lowest free element of
 // the lowest swept span that has one, else the first word of the best run of pages.
-fn find(p: usize, table: &[u32], bits: &[u64], roots: &[u64], kind: usize, n: usize) -> Choice
+fn find(p: usize, table: &[u32], bits: &[u64], roots: &[u64], kind: usize, n: usize) -> RecordPlace
     requires { ⌜ Mapped p (now table) (now bits) × Roots (now roots) × (0 < n) ⌝ }
     ensures { λ r. ⌜ ((a : List ℕ) → let h = lent p a (now (table .entry)) (now (bits .entry)) (now (roots .entry)) in Found h (roomRefusal h kind n) kind n (r .refusal) (r .word) (r .fresh)) ⌝ }
 {
@@ -75,7 +75,7 @@ fn find(p: usize, table: &[u32], bits: &[u64], roots: &[u64], kind: usize, n: us
         let k = spans::free_element(p, table, bits, s);
         let size = spans::element_words(table, s);
         let first = Page(s).first_word();
-        return Choice {
+        return RecordPlace {
             refusal: 0,
             word: first.0 + k * size,
             fresh: false,
@@ -84,7 +84,7 @@ fn find(p: usize, table: &[u32], bits: &[u64], roots: &[u64], kind: usize, n: us
     let page = pages::best_run(p, table, n);
     if page < p {
         let first = Page(page).first_word();
-        return Choice {
+        return RecordPlace {
             refusal: 0,
             word: first.0,
             fresh: true,
@@ -103,7 +103,7 @@ pub fn choose(
     i: u64,
     size: u64,
     pointers: u64,
-) -> Choice
+) -> RecordPlace
     requires { ⌜ Mapped p (now table) (now bits) × Roots (now roots) ⌝ }
     ensures { λ r. ⌜ ((a : List ℕ) → let h = lent p a (now (table .entry)) (now (bits .entry)) (now (roots .entry)) in Found h (allocateRefusal h s i size pointers) (kindOf size pointers) (pagesFor size) (r .refusal) (r .word) (r .fresh)) ⌝ }
 {

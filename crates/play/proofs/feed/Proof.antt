@@ -7,14 +7,14 @@ use lib.Seq.{length-take-le}
 use denote.Ref.{now}
 use Rattle.line_buffer.proofs.Splitting.{short, line-taken}
 use Rattle.lines.specs.Lines.{longestLine}
-use Rattle.play.specs.Run.{ProgramMemory, Within}
+use Rattle.play.specs.Run.{ProgramMemory, InRange}
 use borrow.Author.Needs.{needs}
 use Rattle.play.proofs.feed.Statement.{statement}
 use Rattle.play.proofs.feed.Tie as tie
 
 abbrev Inv-loop : tie.InvT-loop
 Inv-loop arena₀ table₀ bits₀ roots₀ out₀ line₀ block run₀ used₀ i₀ arena table bits roots out line run used i =
-    ProgramMemory arena table bits roots out × Within run × (length line ≡ longestLine) × (used ≤ longestLine) × (i ≤ length block)
+    ProgramMemory arena table bits roots out × InRange run × (length line ≡ longestLine) × (used ≤ longestLine) × (i ≤ length block)
 
 abbrev μ-loop : tie.MeasureT-loop
 μ-loop arena₀ table₀ bits₀ roots₀ out₀ line₀ block run₀ used₀ i₀ arena table bits roots out line run used i =

@@ -4,13 +4,13 @@ use native.Mathlib.Omega.{arith}
 use lib.ListN.{length}
 use borrow.Author.Needs.{needs}
 use Rattle.lines.specs.Lines.{longestLine}
-use Rattle.play.specs.Run.{blockBytes, ProgramMemory, Within}
+use Rattle.play.specs.Run.{blockBytes, ProgramMemory, InRange}
 use Rattle.play.proofs.main.Statement.{statement}
 use Rattle.play.proofs.main.Tie as tie
 
 abbrev Inv-loop : tie.InvT-loop
 Inv-loop arena₀ table₀ bits₀ roots₀ line₀ block₀ out₀ run₀ turns₀ arena table bits roots line block out run turns =
-    ProgramMemory arena table bits roots out × Within run × (length line ≡ longestLine) × (length block ≡ blockBytes)
+    ProgramMemory arena table bits roots out × InRange run × (length line ≡ longestLine) × (length block ≡ blockBytes)
 
 abbrev μ-loop : tie.MeasureT-loop
 μ-loop arena₀ table₀ bits₀ roots₀ line₀ block₀ out₀ run₀ turns₀ arena table bits roots line block out run turns =
