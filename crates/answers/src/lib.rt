@@ -68,7 +68,8 @@ fn write_value(out: &mut [u8], at: usize, v: u64) -> usize
 
 fn write_swept(out: &mut [u8], at: usize, start: u64, freed: u64, returned: u64) -> usize
     requires { ⌜ at + longestAnswer ≤ length (now out) ⌝ }
-    ensures { λ r. ⌜ Wrote (answerText (Answer.Swept start freed returned)) at (now (out .entry)) (now (out .exit)) r ⌝ }
+    ensures { λ r. ⌜
+        Wrote (answerText (Answer.Swept start freed returned)) at (now (out .entry)) (now (out .exit)) r ⌝ }
 {
     let e = write_two(out, at, b'o', b'k');
     let f = write_spaced(out, e, start);

@@ -129,7 +129,9 @@ fn blocks_ok(
     scan: bool,
 ) -> bool
     requires { ⌜ Bitmaps p (now bits) × Shaped p s count size ⌝ }
-    ensures { λ r. ⌜ r ≡ allBelow (64 * (pageBlocks * count)) (wordRule p (now (bits .entry)) (pageWords * s) size held marks grays scan) ⌝ }
+    ensures { λ r. ⌜
+        r ≡ allBelow (64 * (pageBlocks * count))
+        (wordRule p (now (bits .entry)) (pageWords * s) size held marks grays scan) ⌝ }
 {
     let marked = flag(marks);
     let gray = flag(grays);
@@ -201,7 +203,9 @@ fn grays_stand(phase: u64, scan: bool) -> bool
 // The bits of the span at page s keep the rules.
 pub fn span_bits_ok(p: usize, table: &[u32], bits: &[u64], phase: u64, s: usize) -> bool
     requires { ⌜ MappedSpan p (now table) (now bits) s ⌝ }
-    ensures { λ r. ⌜ r ≡ allBelow (64 * (pageBlocks * pageCount (now (table .entry)) s)) (spanRule p phase (now (table .entry)) (now (bits .entry)) s) ⌝ }
+    ensures { λ r. ⌜
+        r ≡ allBelow (64 * (pageBlocks * pageCount (now (table .entry)) s))
+        (spanRule p phase (now (table .entry)) (now (bits .entry)) s) ⌝ }
 {
     let count = page_count(table, s);
     let entry = kind_entry(table, s);
@@ -228,7 +232,9 @@ fn stretch(table: &[u32], g: usize) -> usize
 // The bits of page g, a free one, or of the span that starts there, keep the rules.
 fn stretch_ok(p: usize, table: &[u32], bits: &[u64], phase: u64, g: usize) -> bool
     requires { ⌜ Mapped p (now table) (now bits) × Phased phase (now table) × Begins p (now table) g ⌝ }
-    ensures { λ r. ⌜ T r ↔ GoodWords p phase (now (table .entry)) (now (bits .entry)) (pageWords * g) (pageWords * (g + stretch (now (table .entry)) g)) ⌝ }
+    ensures { λ r. ⌜
+        T r ↔ GoodWords p phase (now (table .entry)) (now (bits .entry)) (pageWords * g)
+        (pageWords * (g + stretch (now (table .entry)) g)) ⌝ }
 {
     if owner(table, g) == 0 {
         return free_page_ok(p, bits, g);
@@ -239,7 +245,9 @@ fn stretch_ok(p: usize, table: &[u32], bits: &[u64], phase: u64, g: usize) -> bo
 // The audit's clauses about bits, also where they depend on the phase. The page table has passed it.
 pub fn bits_ok(p: usize, table: &[u32], bits: &[u64], phase: u64) -> bool
     requires { ⌜ Mapped p (now table) (now bits) × Phased phase (now table) ⌝ }
-    ensures { λ r. ⌜ T r ↔ (Bits p (now (table .entry)) (now (bits .entry)) × Phases p phase (now (table .entry)) (now (bits .entry))) ⌝ }
+    ensures { λ r. ⌜
+        T r ↔ (Bits p (now (table .entry)) (now (bits .entry)) ×
+        Phases p phase (now (table .entry)) (now (bits .entry))) ⌝ }
 {
     let mut g = 0;
     while g < p {

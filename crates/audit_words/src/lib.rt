@@ -135,7 +135,8 @@ fn block_ok(
     pointers: u64,
 ) -> bool
     requires { ⌜ Filled p (now arena) (now table) (now bits) × Told swept (now table) × (at < pageBlocks * p) ⌝ }
-    ensures { λ r. ⌜ (T r ↔ BlockContents p (now (arena .entry)) (now (table .entry)) (now (bits .entry)) at pointers) ⌝ }
+    ensures { λ r. ⌜
+        (T r ↔ BlockContents p (now (arena .entry)) (now (table .entry)) (now (bits .entry)) at pointers) ⌝ }
 {
     let first = WORD_BITS * at;
     let mut left = pointers;
@@ -160,7 +161,8 @@ fn blocks_ok(
     from: usize,
     to: usize,
 ) -> bool
-    requires { ⌜ Filled p (now arena) (now table) (now bits) × Told swept (now table) × (from ≤ to) × (to ≤ pageBlocks * p) ⌝ }
+    requires { ⌜
+        Filled p (now arena) (now table) (now bits) × Told swept (now table) × (from ≤ to) × (to ≤ pageBlocks * p) ⌝ }
     ensures { λ r. ⌜ (T r ↔ BlocksContents p (now (arena .entry)) (now (table .entry)) (now (bits .entry)) from to) ⌝ }
 {
     let part = PARTS_BEFORE * (PAGE_BLOCKS * p);
@@ -228,7 +230,8 @@ fn elements_ok(
 
 // The same, for the span as its entry describes it.
 fn span_ok(p: usize, arena: &[u64], table: &[u32], bits: &[u64], swept: bool, s: usize) -> bool
-    requires { ⌜ Filled p (now arena) (now table) (now bits) × Told swept (now table) × (s < p) × IsSpan (now table) s ⌝ }
+    requires { ⌜
+        Filled p (now arena) (now table) (now bits) × Told swept (now table) × (s < p) × IsSpan (now table) s ⌝ }
     ensures { λ r. ⌜ (T r ↔ SpanContents p (now (arena .entry)) (now (table .entry)) (now (bits .entry)) s) ⌝ }
 {
     let kind = pages::kind_entry(table, s);

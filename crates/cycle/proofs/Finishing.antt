@@ -8,7 +8,6 @@ use native.Mathlib.Omega.{arith}
 use lib.Dec.{eqb, ltb}
 use lib.ListN.{getD, set}
 use borrow.Author.Tests.{ne-eqb}
-use Rattle.model.specs.Classes.{kinds}
 use Rattle.model.specs.Bounded.{someBelow}
 use Rattle.model.specs.Memory.{lent, stackCount, firstState, globalsStateAt, phaseAt, mark, sweep, grayState, pageWords}
 use Rattle.model.specs.Answers.{Meets, wrongPhase, unfinished, _given_, _orElse_}

@@ -31,7 +31,8 @@ fn first_gray(p: usize, bits: &[u64]) -> usize
 // up to its element's end at most.
 fn pointer_count(p: usize, table: &[u32], bits: &[u64], w: usize) -> usize
     requires { ⌜ Mapped p (now table) (now bits) × Element (now table) w ⌝ }
-    ensures { λ r. ⌜ ((a roots : List ℕ) → r ≡ pointerCount (lent p a (now (table .entry)) (now (bits .entry)) roots) w) ⌝ }
+    ensures { λ r. ⌜
+        ((a roots : List ℕ) → r ≡ pointerCount (lent p a (now (table .entry)) (now (bits .entry)) roots) w) ⌝ }
 {
     let size = spans::element_words(table, pages::span_of_word(table, w));
     let first = 3 * (units::PAGE_WORDS * p) + w;
@@ -41,7 +42,9 @@ fn pointer_count(p: usize, table: &[u32], bits: &[u64], w: usize) -> usize
 // The gray record at word w: its gray bit goes, and its pointer words are shaded.
 fn scan_record(p: usize, arena: &[u64], table: &[u32], bits: &mut [u64], roots: &[u64], w: usize)
     requires { ⌜ Gray (lent p (now arena) (now table) (now bits) (now roots)) w ⌝ }
-    ensures { λ r. ⌜ now (bits .exit) ≡ scanRecord w (lent p (now (arena .entry)) (now (table .entry)) (now (bits .entry)) (now (roots .entry))) ⌝ }
+    ensures { λ r. ⌜
+        now (bits .exit) ≡ scanRecord w
+        (lent p (now (arena .entry)) (now (table .entry)) (now (bits .entry)) (now (roots .entry))) ⌝ }
 {
     let n = pointer_count(p, table, bits, w);
     bitmap::clear(bits, 2 * (units::PAGE_WORDS * p) + w);
@@ -51,7 +54,9 @@ fn scan_record(p: usize, arena: &[u64], table: &[u32], bits: &mut [u64], roots: 
 // One mark step: the gray record with the lowest address.
 pub fn mark_step(p: usize, arena: &[u64], table: &[u32], bits: &mut [u64], roots: &[u64]) -> Answer
     requires { ⌜ Audited (lent p (now arena) (now table) (now bits) (now roots)) ⌝ }
-    ensures { λ r. ⌜ Meets (markStep (lent p (now (arena .entry)) (now (table .entry)) (now (bits .entry)) (now (roots .entry)))) r (now (arena .entry)) (now (table .entry)) (now (bits .exit)) (now (roots .entry)) ⌝ }
+    ensures { λ r. ⌜
+        Meets (markStep (lent p (now (arena .entry)) (now (table .entry)) (now (bits .entry)) (now (roots .entry)))) r
+        (now (arena .entry)) (now (table .entry)) (now (bits .exit)) (now (roots .entry)) ⌝ }
 {
     if roots[units::PHASE] != units::MARK {
         return Answer::Refused(units::WRONG_PHASE);
@@ -102,7 +107,9 @@ fn finish_refusal(p: usize, bits: &[u64], roots: &[u64]) -> u64
 // Marking ends: every span becomes unswept.
 pub fn finish(p: usize, table: &mut [u32], bits: &[u64], roots: &mut [u64]) -> Answer
     requires { ⌜ AuditedWithoutArena p (now table) (now bits) (now roots) ⌝ }
-    ensures { λ r. ⌜ MeetsWithoutArena (λ h. finish h) p (now (table .entry)) (now (bits .entry)) (now (roots .entry)) r (now (table .exit)) (now (bits .entry)) (now (roots .exit)) ⌝ }
+    ensures { λ r. ⌜
+        MeetsWithoutArena (λ h. finish h) p (now (table .entry)) (now (bits .entry)) (now (roots .entry)) r
+        (now (table .exit)) (now (bits .entry)) (now (roots .exit)) ⌝ }
 {
     let n = finish_refusal(p, bits, roots);
     if n != 0 {

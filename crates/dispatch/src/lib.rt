@@ -15,7 +15,11 @@ pub fn make(
     roots: &mut [u64],
     call: LineCall,
 ) -> Answer
-    ensures { λ r. ⌜ Meets (run (lent p (now (arena .entry)) (now (table .entry)) (now (bits .entry)) (now (roots .entry))) (callOf call)) r (now (arena .exit)) (now (table .exit)) (now (bits .exit)) (now (roots .exit)) ⌝ }
+    ensures { λ r. ⌜
+        Meets
+        (run (lent p (now (arena .entry)) (now (table .entry)) (now (bits .entry)) (now (roots .entry)))
+        (callOf call))
+        r (now (arena .exit)) (now (table .exit)) (now (bits .exit)) (now (roots .exit)) ⌝ }
 {
     match call {
         LineCall::Open(s) => heap::open(p, arena, table, bits, roots, s),

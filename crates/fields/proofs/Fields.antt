@@ -1,6 +1,6 @@
 -- The fields of a record in audited buffers: its pointer words end where the first pointer bit is off, and no pointer bit stands behind it in the
 -- element. So one bit tells what a field is.
-use Prim.Native.Nat.{ℕ, _+_, _-_, _*_, _/_, _<_, _≤_}
+use Prim.Native.Nat.{ℕ, _+_, _*_, _/_, _<_, _≤_}
 use mathlib.Core.Bool.{Bool, true, false, not, _||_, or-false, or-true}
 use mathlib.Core.List.{List}
 use mathlib.Core.Logic.{_≢_}

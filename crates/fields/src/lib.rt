@@ -28,7 +28,8 @@ fn in_element(table: &[u32], w: usize, f: u64) -> bool
 // Field f of the record at word w is one of its pointer words.
 fn is_pointer(p: usize, table: &[u32], bits: &[u64], w: usize, f: u64) -> bool
     requires { ⌜ Consistent p (now table) (now bits) × Element (now table) w ⌝ }
-    ensures { λ r. ⌜ ((a s : List ℕ) → r ≡ (f <? pointerCount (lent p a (now (table .entry)) (now (bits .entry)) s) w)) ⌝ }
+    ensures { λ r. ⌜
+        ((a s : List ℕ) → r ≡ (f <? pointerCount (lent p a (now (table .entry)) (now (bits .entry)) s) w)) ⌝ }
 {
     if !in_element(table, w, f) {
         return false;
@@ -39,7 +40,9 @@ fn is_pointer(p: usize, table: &[u32], bits: &[u64], w: usize, f: u64) -> bool
 // Field f of the record at word w is one of the words after its pointer words.
 fn is_number(p: usize, table: &[u32], bits: &[u64], w: usize, f: u64) -> bool
     requires { ⌜ Consistent p (now table) (now bits) × Element (now table) w ⌝ }
-    ensures { λ r. ⌜ ((a s : List ℕ) → r ≡ not (f <? pointerCount (lent p a (now (table .entry)) (now (bits .entry)) s) w || elementWords (now (table .entry)) (spanOf (now (table .entry)) w) ≤? f)) ⌝ }
+    ensures { λ r. ⌜
+        ((a s : List ℕ) → r ≡ not (f <? pointerCount (lent p a (now (table .entry)) (now (bits .entry)) s) w ||
+        elementWords (now (table .entry)) (spanOf (now (table .entry)) w) ≤? f)) ⌝ }
 {
     if !in_element(table, w, f) {
         return false;
@@ -59,7 +62,9 @@ pub fn pointer_refusal(
     f: u64,
 ) -> u64
     requires { ⌜ Rooted p (now table) (now bits) (now roots) ⌝ }
-    ensures { λ r. ⌜ NumberWithoutArena (λ h. pointerRefusal h s i j f) p (now (table .entry)) (now (bits .entry)) (now (roots .entry)) r ⌝ }
+    ensures { λ r. ⌜
+        NumberWithoutArena (λ h. pointerRefusal h s i j f) p (now (table .entry)) (now (bits .entry))
+        (now (roots .entry)) r ⌝ }
 {
     let n = root_checks::slots_refusal(roots, s, i, j);
     if n != 0 {
@@ -88,7 +93,9 @@ pub fn number_refusal(
     f: u64,
 ) -> u64
     requires { ⌜ Rooted p (now table) (now bits) (now roots) ⌝ }
-    ensures { λ r. ⌜ NumberWithoutArena (λ h. numberRefusal h s j f) p (now (table .entry)) (now (bits .entry)) (now (roots .entry)) r ⌝ }
+    ensures { λ r. ⌜
+        NumberWithoutArena (λ h. numberRefusal h s j f) p (now (table .entry)) (now (bits .entry))
+        (now (roots .entry)) r ⌝ }
 {
     let n = root_checks::slot_refusal(roots, s, j);
     if n != 0 {

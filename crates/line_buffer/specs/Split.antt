@@ -1,6 +1,5 @@
 -- Input split into lines: what the bytes of a block, from a place on, make of the line under way.
 use Prim.Native.Nat.{ℕ, _+_, _-_, _≤_, min}
-use mathlib.Core.Bool.{Bool}
 use mathlib.Core.List.{List}
 use mathlib.Core.Path.{_≡_}
 use lib.ListN.{length, getD}

@@ -18,7 +18,9 @@ pub enum Taken {
 // The bytes of the block from `from` on join the `used` bytes of the line under way.
 pub fn take(line: &mut [u8], used: usize, block: &[u8], from: usize) -> Taken
     requires { ⌜ UnderWay (now line) used (now block) from ⌝ }
-    ensures { λ r. ⌜ (r ≡ taken used (now (block .entry)) from) × (now (line .exit) ≡ joined (now (line .entry)) used (now (block .entry)) from) ⌝ }
+    ensures { λ r. ⌜
+        (r ≡ taken used (now (block .entry)) from) ×
+        (now (line .exit) ≡ joined (now (line .entry)) used (now (block .entry)) from) ⌝ }
 {
     let mut at = used;
     let mut i = from;

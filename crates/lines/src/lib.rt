@@ -162,7 +162,10 @@ fn line_of(b: u8, n: Numbers) -> Line
         b'H' => line_when(count == 1, Line::Setup(n.1)),
         b'O' => line_when(count == 1, Line::Call(LineCall::Open(n.1))),
         b'C' => line_when(count == 1, Line::Call(LineCall::Close(n.1))),
-        b'A' => line_when(count == 4, Line::Call(LineCall::Allocate(n.1, n.2, n.3, n.4))),
+        b'A' => line_when(
+            count == 4,
+            Line::Call(LineCall::Allocate(n.1, n.2, n.3, n.4)),
+        ),
         b'M' => line_when(count == 3, Line::Call(LineCall::Copy(n.1, n.2, n.3))),
         b'Z' => line_when(count == 2, Line::Call(LineCall::Clear(n.1, n.2))),
         b'L' => line_when(count == 4, Line::Call(LineCall::Load(n.1, n.2, n.3, n.4))),

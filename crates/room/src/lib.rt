@@ -42,7 +42,9 @@ fn size_refusal(size: u64, pointers: u64) -> u64
 // The refusal where there is no room: a sweep may make some while a span is unswept.
 fn no_room(p: usize, table: &[u32], roots: &[u64]) -> u64
     requires { ⌜ PageTable p (now table) × Roots (now roots) ⌝ }
-    ensures { λ r. ⌜ r ≡ cond (eqb (getD (now (roots .entry)) phaseAt 0) sweep && someUnswept p (now (table .entry))) sweepFirst noRoom ⌝ }
+    ensures { λ r. ⌜
+        r ≡ cond (eqb (getD (now (roots .entry)) phaseAt 0) sweep && someUnswept p (now (table .entry)))
+        sweepFirst noRoom ⌝ }
 {
     if roots[units::PHASE] != units::SWEEP {
         return units::NO_ROOM;
@@ -68,7 +70,9 @@ fn refused(number: u64) -> RecordPlace
 // the lowest swept span that has one, else the first word of the best run of pages.
 fn find(p: usize, table: &[u32], bits: &[u64], roots: &[u64], kind: usize, n: usize) -> RecordPlace
     requires { ⌜ Mapped p (now table) (now bits) × Roots (now roots) × (0 < n) ⌝ }
-    ensures { λ r. ⌜ ((a : List ℕ) → let h = lent p a (now (table .entry)) (now (bits .entry)) (now (roots .entry)) in Found h (roomRefusal h kind n) kind n (r .refusal) (r .word) (r .fresh)) ⌝ }
+    ensures { λ r. ⌜
+        ((a : List ℕ) → let h = lent p a (now (table .entry)) (now (bits .entry)) (now (roots .entry)) in
+        Found h (roomRefusal h kind n) kind n (r .refusal) (r .word) (r .fresh)) ⌝ }
 {
     let s = spans::span_with_room(p, table, bits, kind);
     if s < p {
@@ -105,7 +109,10 @@ pub fn choose(
     pointers: u64,
 ) -> RecordPlace
     requires { ⌜ Mapped p (now table) (now bits) × Roots (now roots) ⌝ }
-    ensures { λ r. ⌜ ((a : List ℕ) → let h = lent p a (now (table .entry)) (now (bits .entry)) (now (roots .entry)) in Found h (allocateRefusal h s i size pointers) (kindOf size pointers) (pagesFor size) (r .refusal) (r .word) (r .fresh)) ⌝ }
+    ensures { λ r. ⌜
+        ((a : List ℕ) → let h = lent p a (now (table .entry)) (now (bits .entry)) (now (roots .entry)) in
+        Found h (allocateRefusal h s i size pointers) (kindOf size pointers) (pagesFor size)
+        (r .refusal) (r .word) (r .fresh)) ⌝ }
 {
     let no_slot = root_checks::slot_refusal(roots, s, i);
     if no_slot != 0 {

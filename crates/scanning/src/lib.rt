@@ -27,7 +27,9 @@ fn grayed(state: u64) -> u64
 // Every open stack becomes gray.
 fn gray_stacks(roots: &mut [u64])
     requires { ⌜ Roots (now roots) ⌝ }
-    ensures { λ r. ⌜ now (roots .exit) ≡ putWords firstState stackCount (λ i. cond (eqb (getD (now (roots .entry)) i 0) closed) closed grayState) (now (roots .entry)) ⌝ }
+    ensures { λ r. ⌜
+        now (roots .exit) ≡ putWords firstState stackCount
+        (λ i. cond (eqb (getD (now (roots .entry)) i 0) closed) closed grayState) (now (roots .entry)) ⌝ }
 {
     let mut done = 0;
     while done < units::STACKS {
@@ -63,7 +65,9 @@ fn scan(
     at: usize,
 ) -> Answer
     requires { ⌜ Scannable p (now table) (now bits) (now roots) from n at ⌝ }
-    ensures { λ r. ⌜ Scans p (now (table .entry)) (now (bits .entry)) (now (roots .entry)) from n at r (now (bits .exit)) (now (roots .exit)) ⌝ }
+    ensures { λ r. ⌜
+        Scans p (now (table .entry)) (now (bits .entry)) (now (roots .entry)) from n at
+        r (now (bits .exit)) (now (roots .exit)) ⌝ }
 {
     if roots[at] != units::GRAY {
         return Answer::Value(0);
@@ -87,7 +91,9 @@ fn scan_refusal(roots: &[u64], s: u64) -> u64
 // Stack s is scanned.
 pub fn scan_stack(p: usize, table: &[u32], bits: &mut [u64], roots: &mut [u64], s: u64) -> Answer
     requires { ⌜ AuditedWithoutArena p (now table) (now bits) (now roots) ⌝ }
-    ensures { λ r. ⌜ MeetsWithoutArena (λ h. scanStack h s) p (now (table .entry)) (now (bits .entry)) (now (roots .entry)) r (now (table .entry)) (now (bits .exit)) (now (roots .exit)) ⌝ }
+    ensures { λ r. ⌜
+        MeetsWithoutArena (λ h. scanStack h s) p (now (table .entry)) (now (bits .entry)) (now (roots .entry)) r
+        (now (table .entry)) (now (bits .exit)) (now (roots .exit)) ⌝ }
 {
     let n = scan_refusal(roots, s);
     if n != 0 {
@@ -108,7 +114,9 @@ pub fn scan_stack(p: usize, table: &[u32], bits: &mut [u64], roots: &mut [u64], 
 // The globals are scanned.
 pub fn scan_globals(p: usize, table: &[u32], bits: &mut [u64], roots: &mut [u64]) -> Answer
     requires { ⌜ AuditedWithoutArena p (now table) (now bits) (now roots) ⌝ }
-    ensures { λ r. ⌜ MeetsWithoutArena (λ h. scanGlobals h) p (now (table .entry)) (now (bits .entry)) (now (roots .entry)) r (now (table .entry)) (now (bits .exit)) (now (roots .exit)) ⌝ }
+    ensures { λ r. ⌜
+        MeetsWithoutArena (λ h. scanGlobals h) p (now (table .entry)) (now (bits .entry)) (now (roots .entry)) r
+        (now (table .entry)) (now (bits .exit)) (now (roots .exit)) ⌝ }
 {
     if roots[units::PHASE] != units::MARK {
         return Answer::Refused(units::WRONG_PHASE);

@@ -45,7 +45,9 @@ pub fn shade(p: usize, table: &[u32], bits: &mut [u64], v: u64) -> u64
 // The barrier of a store, in the mark phase: the old value is shaded, then the new.
 pub fn barrier(p: usize, table: &[u32], bits: &mut [u64], roots: &[u64], old: u64, new: u64)
     requires { ⌜ Stored p (now table) (now bits) (now roots) old new ⌝ }
-    ensures { λ r. ⌜ ((arena : List ℕ) → now (bits .exit) ≡ barrier (lent p arena (now (table .entry)) (now (bits .entry)) (now (roots .entry))) old new) ⌝ }
+    ensures { λ r. ⌜
+        ((arena : List ℕ) → now (bits .exit) ≡
+        barrier (lent p arena (now (table .entry)) (now (bits .entry)) (now (roots .entry))) old new) ⌝ }
 {
     if roots[units::PHASE] != units::MARK {
         return;
@@ -64,7 +66,9 @@ pub fn shade_slice(
     n: usize,
 ) -> u64
     requires { ⌜ ShadableSlice p (now table) (now bits) (now words) from n ⌝ }
-    ensures { λ r. ⌜ ShadesAll p (now (table .entry)) n (λ i. getD (now (words .entry)) (from + i) 0) (now (bits .entry)) r (now (bits .exit)) ⌝ }
+    ensures { λ r. ⌜
+        ShadesAll p (now (table .entry)) n (λ i. getD (now (words .entry)) (from + i) 0) (now (bits .entry)) r
+        (now (bits .exit)) ⌝ }
 {
     let mut k = 0;
     let mut count: u64 = 0;

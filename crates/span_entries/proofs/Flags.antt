@@ -5,7 +5,6 @@ use mathlib.Core.Path.{_≡_, sym, _∙_}
 use native.Mathlib.Omega.{arith}
 use lib.ListN.{set}
 use borrow.Author.Tests.{eq-eqb, ne-eqb}
-use Rattle.model.specs.Classes.{kinds}
 use Rattle.model.specs.Memory.{entryNumbers, unsweptFlag}
 use Rattle.model.specs.Spans.{owner, pageCount, kindEntry, Entry}
 use Rattle.model.specs.Cycle.{unsweptPage}

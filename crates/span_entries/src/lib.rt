@@ -17,7 +17,8 @@ use units::UNSWEPT_FLAG;
 // Page g's entry.
 fn put_entry(table: &mut [u32], g: usize, owner: u32, count: u32, kind: u32)
     requires { ⌜ HasEntry (now table) g ⌝ }
-    ensures { λ r. ⌜ now (table .exit) ≡ putPage g (record { owner = owner; count = count; kind = kind }) (now (table .entry)) ⌝ }
+    ensures { λ r. ⌜
+        now (table .exit) ≡ putPage g (record { owner = owner; count = count; kind = kind }) (now (table .entry)) ⌝ }
 {
     let at = ENTRY_NUMBERS * g;
     table[at] = owner;
@@ -59,7 +60,8 @@ pub fn free_span(table: &mut [u32], s: usize, n: usize)
 // The kind of the span that starts at page s, with or without the unswept flag.
 pub fn set_kind(table: &mut [u32], s: usize, kind: u32)
     requires { ⌜ SpanEntry (now table) s ⌝ }
-    ensures { λ r. ⌜ now (table .exit) ≡ putPage s (spanPage s (pageCount (now (table .entry)) s) kind s) (now (table .entry)) ⌝ }
+    ensures { λ r. ⌜
+        now (table .exit) ≡ putPage s (spanPage s (pageCount (now (table .entry)) s) kind s) (now (table .entry)) ⌝ }
 {
     table[ENTRY_NUMBERS * s + KIND] = kind;
 }
@@ -67,7 +69,9 @@ pub fn set_kind(table: &mut [u32], s: usize, kind: u32)
 // The span that starts at page s becomes swept.
 pub fn make_swept(table: &mut [u32], s: usize)
     requires { ⌜ SpanEntry (now table) s ⌝ }
-    ensures { λ r. ⌜ now (table .exit) ≡ putPage s (spanPage s (pageCount (now (table .entry)) s) (kindAt (now (table .entry)) s) s) (now (table .entry)) ⌝ }
+    ensures { λ r. ⌜
+        now (table .exit) ≡ putPage s (spanPage s (pageCount (now (table .entry)) s) (kindAt (now (table .entry)) s) s)
+        (now (table .entry)) ⌝ }
 {
     let kind = table[ENTRY_NUMBERS * s + KIND] % UNSWEPT_FLAG;
     set_kind(table, s, kind);

@@ -54,7 +54,11 @@ fn set_up(
     at: usize,
 ) -> LineResult
     requires { ⌜ at + longestAnswer ≤ length (now out) ⌝ }
-    ensures { λ r. ⌜ Plays (playedSetup p (lent 0 (now (arena .entry)) (now (table .entry)) (now (bits .entry)) (now (roots .entry)))) at (now (out .entry)) (now (out .exit)) r (now (arena .exit)) (now (table .exit)) (now (bits .exit)) (now (roots .exit)) ⌝ }
+    ensures { λ r. ⌜
+        Plays
+        (playedSetup p (lent 0 (now (arena .entry)) (now (table .entry)) (now (bits .entry)) (now (roots .entry))))
+        at (now (out .entry)) (now (out .exit)) r
+        (now (arena .exit)) (now (table .exit)) (now (bits .exit)) (now (roots .exit)) ⌝ }
 {
     if p == 0 {
         let e = answers::write_answer(out, at, Answer::Refused(units::BAD_BUFFERS));
@@ -81,7 +85,12 @@ pub fn first_line(
     at: usize,
 ) -> LineResult
     requires { ⌜ at + longestAnswer ≤ length (now out) ⌝ }
-    ensures { λ r. ⌜ Plays (first (readLine (now (line .entry))) (lent 0 (now (arena .entry)) (now (table .entry)) (now (bits .entry)) (now (roots .entry)))) at (now (out .entry)) (now (out .exit)) r (now (arena .exit)) (now (table .exit)) (now (bits .exit)) (now (roots .exit)) ⌝ }
+    ensures { λ r. ⌜
+        Plays
+        (first (readLine (now (line .entry)))
+        (lent 0 (now (arena .entry)) (now (table .entry)) (now (bits .entry)) (now (roots .entry))))
+        at (now (out .entry)) (now (out .exit)) r
+        (now (arena .exit)) (now (table .exit)) (now (bits .exit)) (now (roots .exit)) ⌝ }
 {
     let Line::Setup(p) = lines::read(line) else {
         let e = answers::write_bad(out, at, 1);
@@ -103,7 +112,12 @@ pub fn later_line(
     at: usize,
 ) -> LineResult
     requires { ⌜ at + longestAnswer ≤ length (now out) ⌝ }
-    ensures { λ r. ⌜ Plays (later (readLine (now (line .entry))) number (lent p (now (arena .entry)) (now (table .entry)) (now (bits .entry)) (now (roots .entry)))) at (now (out .entry)) (now (out .exit)) r (now (arena .exit)) (now (table .exit)) (now (bits .exit)) (now (roots .exit)) ⌝ }
+    ensures { λ r. ⌜
+        Plays
+        (later (readLine (now (line .entry))) number
+        (lent p (now (arena .entry)) (now (table .entry)) (now (bits .entry)) (now (roots .entry))))
+        at (now (out .entry)) (now (out .exit)) r
+        (now (arena .exit)) (now (table .exit)) (now (bits .exit)) (now (roots .exit)) ⌝ }
 {
     let Line::Call(call) = lines::read(line) else {
         let e = answers::write_bad(out, at, number);

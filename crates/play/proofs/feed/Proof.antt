@@ -4,7 +4,6 @@ use mathlib.Core.Path.{_≡_, sym}
 use native.Mathlib.Omega.{arith}
 use lib.ListN.{length}
 use lib.Seq.{length-take-le}
-use denote.Ref.{now}
 use Rattle.line_buffer.proofs.Splitting.{short, line-taken}
 use Rattle.lines.specs.Lines.{longestLine}
 use Rattle.play.specs.Run.{ProgramMemory, InRange}
