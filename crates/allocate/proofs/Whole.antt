@@ -20,16 +20,10 @@ use Rattle.model.proofs.Spans.{element-fits}
 use Rattle.model.specs.Facts.{Audited}
 use Rattle.model.proofs.Checks.{allocate-passed}
 use Rattle.pages.proofs.Allocate.{best-fits}
-use Rattle.room.specs.Needs.{Searches, Found}
+use Rattle.span_entries.specs.Needs.{NewEntries}
+use Rattle.room.specs.Needs.{Found}
 use Rattle.room.proofs.Room.{Suits, span-found}
-use Rattle.allocate.specs.Needs.{Extends, Takes, Taken}
-
--- what the audit gives the search
-pub searches : {h : Heap} → Audited h → Searches (h .pages) (h .table) (h .bits) (h .roots)
-searches {h} F = record {
-  searchable = record { few = F .sized .high; table = F .sized .table; bits = F .sized .bits; spans = F .spans };
-  roots = F .sized .roots;
-}
+use Rattle.allocate.specs.Needs.{ElementFor, ElementTaken}
 
 module _ {h : Heap} (F : Audited h) (size p : ℕ) (some : size ≢ 0) (limit : size ≤ maxSize) (pointers : p ≤ size / wordBytes) where
   abbrev old : ℕ
@@ -60,13 +54,13 @@ module _ {h : Heap} (F : Audited h) (size p : ℕ) (some : size ≢ 0) (limit : 
 
   -- a new span lies in the table
   pub new-extends : (f : Bool) (w : ℕ) → f ≡ not (ltb old (h .pages)) → w ≡ newWord h (kindOf size p) (pagesFor size) → T (roomFor h (kindOf size p) (pagesFor size)) →
-      f ≡ true → Extends (h .table) w size
+      f ≡ true → NewEntries (h .table) (pageOf w) (pagesFor size)
   unfolding newWord
   new-extends f w e g m t =
       let c : ltb old (h .pages) ≡ false = not-true (ltb old (h .pages)) (sym e ∙ t) in
       let v : w ≡ pageWords * new = rw c at g in
       let i = best-fits (h .pages) (h .table) (pagesFor size) (ltb→lt new (h .pages) (rw c at m)) in
-      record { few = omega (arith, F .sized .high); long = omega (arith, F .sized .table) }
+      record { few = omega (arith, F .sized .high); entries = omega (arith, F .sized .table) }
 
 -- the table with the new span
 pub table-is : (h : Heap) (kind n : ℕ) (f : Bool) (w : ℕ) → f ≡ not (ltb (spanWithRoom h kind) (h .pages)) → w ≡ newWord h kind n →
@@ -89,8 +83,8 @@ pub record Accepted (h : Heap) (s i size p w : ℕ) (f : Bool) : Type 0 where
   pub stack : s < stackCount
   pub slot : i < slotCount
   pub word : w ≡ newWord h (kindOf size p) (pagesFor size)
-  pub extends : f ≡ true → Extends (h .table) w size
-  pub takes : Takes (h .pages) w size p (slotAt s i) (h .arena) (h .bits) (h .roots)
+  pub extends : f ≡ true → NewEntries (h .table) (pageOf w) (pagesFor size)
+  pub takes : ElementFor (h .pages) w size p (slotAt s i) (h .arena) (h .bits) (h .roots)
   pub table : cond f (putPages (pageOf w) (pagesFor size) (spanPage (pageOf w) (pagesFor size) (kindOf size p)) (h .table)) (h .table) ≡ newTable h (kindOf size p) (pagesFor size)
 
 pub accepted-facts : {h : Heap} → Audited h → (s i size p : ℕ) {r w : ℕ} {f : Bool} → Found h (allocateRefusal h s i size p) (kindOf size p) (pagesFor size) r w f → r ≡ 0 →
@@ -109,8 +103,7 @@ accepted-facts {h} F s i size p {r} {w} {f} D z =
       extends = new-extends F size p (A .some) (A .limit) (A .pointers) f w e v (A .room);
       takes = record {
         marks = record {
-          few = F .sized .high;
-          bits = F .sized .bits;
+          bitmaps = record { few = F .sized .high; bits = F .sized .bits };
           roots = F .sized .roots;
           word = omega (arith, inside, K .fits .words);
           pointers = omega (arith, inside, K .pointers);
@@ -124,7 +117,7 @@ accepted-facts {h} F s i size p {r} {w} {f} D z =
 
 -- the element taken and the table extended meet the outcome
 pub accepted-meets : (h : Heap) (s i size p : ℕ) {w v : ℕ} {f : Bool} {a t b r : List ℕ} → Accepted h s i size p w f →
-    t ≡ cond f (putPages (pageOf w) (pagesFor size) (spanPage (pageOf w) (pagesFor size) (kindOf size p)) (h .table)) (h .table) → Taken h w size p (slotAt s i) v a b r →
+    t ≡ cond f (putPages (pageOf w) (pagesFor size) (spanPage (pageOf w) (pagesFor size) (kindOf size p)) (h .table)) (h .table) → ElementTaken h w size p (slotAt s i) v a b r →
     Meets (allocate h s i size p) (Value v) a t b r
 unfolding allocate
 accepted-meets h s i size p {w} A u K =

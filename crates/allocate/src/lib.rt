@@ -11,14 +11,18 @@ ghost use Rattle.model.specs.Classes.{maxSize, classOf, kindOf, pagesFor, eleme
 ghost use Rattle.model.specs.Spans.{putPages, spanPage};
 ghost use Rattle.model.specs.Allocate.{newBits, allocate};
 ghost use Rattle.model.specs.Facts.{Audited};
-ghost use Rattle.allocate.specs.Needs.{Extends, Marks, Takes, Taken};
+ghost use Rattle.span_entries.specs.Needs.{NewEntries};
+ghost use Rattle.allocate.specs.Needs.{Marks, ElementFor, ElementTaken};
 use model::Answer;
 use units::Word;
 
 // Makes the span of a record at word w, if it is still to be made.
 fn extend(table: &mut [u32], fresh: bool, w: usize, size: u64, pointers: u64)
-    requires { ⌜ (fresh ≡ true → Extends (now table) w size) ⌝ }
-    ensures { λ r. ⌜ now (table .exit) ≡ cond fresh (putPages (pageOf w) (pagesFor size) (spanPage (pageOf w) (pagesFor size) (kindOf size pointers)) (now (table .entry))) (now (table .entry)) ⌝ }
+    requires { ⌜ (fresh ≡ true → NewEntries (now table) (pageOf w) (pagesFor size)) ⌝ }
+    ensures { λ r. ⌜
+        now (table .exit) ≡ cond fresh
+        (putPages (pageOf w) (pagesFor size) (spanPage (pageOf w) (pagesFor size) (kindOf size pointers))
+        (now (table .entry))) (now (table .entry)) ⌝ }
 {
     if !fresh {
         return;
@@ -33,7 +37,9 @@ fn extend(table: &mut [u32], fresh: bool, w: usize, size: u64, pointers: u64)
 // depend on the arena and the page table.
 fn mark_new(p: usize, bits: &mut [u64], roots: &[u64], w: usize, pointers: usize)
     requires { ⌜ Marks p w pointers (now bits) (now roots) ⌝ }
-    ensures { λ r. ⌜ ((a t : List ℕ) → now (bits .exit) ≡ newBits (lent p a t (now (bits .entry)) (now (roots .entry))) w pointers) ⌝ }
+    ensures { λ r. ⌜
+        ((a t : List ℕ) →
+        now (bits .exit) ≡ newBits (lent p a t (now (bits .entry)) (now (roots .entry))) w pointers) ⌝ }
 {
     let words = units::PAGE_WORDS * p;
     bitmap::set(bits, w);
@@ -46,7 +52,8 @@ fn mark_new(p: usize, bits: &mut [u64], roots: &[u64], w: usize, pointers: usize
 // The words of the new element become 0.
 fn zero_element(arena: &mut [u64], w: usize, size: u64)
     requires { ⌜ (size ≤ maxSize) × (w + elementWordsOf (classOf size) (pagesFor size) ≤ length (now arena)) ⌝ }
-    ensures { λ r. ⌜ now (arena .exit) ≡ putWords w (elementWordsOf (classOf size) (pagesFor size)) (λ v. 0) (now (arena .entry)) ⌝ }
+    ensures { λ r. ⌜
+        now (arena .exit) ≡ putWords w (elementWordsOf (classOf size) (pagesFor size)) (λ v. 0) (now (arena .entry)) ⌝ }
 {
     let words = classes::element_words(classes::class_of(size), classes::pages_for(size));
     words::zero_part(arena, w, words);
@@ -63,8 +70,11 @@ fn take(
     pointers: usize,
     slot: usize,
 ) -> u64
-    requires { ⌜ Takes p w size pointers slot (now arena) (now bits) (now roots) ⌝ }
-    ensures { λ r. ⌜ ((t : List ℕ) → Taken (lent p (now (arena .entry)) t (now (bits .entry)) (now (roots .entry))) w size pointers slot r (now (arena .exit)) (now (bits .exit)) (now (roots .exit))) ⌝ }
+    requires { ⌜ ElementFor p w size pointers slot (now arena) (now bits) (now roots) ⌝ }
+    ensures { λ r. ⌜
+        ((t : List ℕ) →
+        ElementTaken (lent p (now (arena .entry)) t (now (bits .entry)) (now (roots .entry))) w size pointers slot r
+        (now (arena .exit)) (now (bits .exit)) (now (roots .exit))) ⌝ }
 {
     zero_element(arena, w, size);
     mark_new(p, bits, roots, w, pointers);
@@ -86,7 +96,11 @@ pub fn allocate(
     pointers: u64,
 ) -> Answer
     requires { ⌜ Audited (lent p (now arena) (now table) (now bits) (now roots)) ⌝ }
-    ensures { λ r. ⌜ Meets (allocate (lent p (now (arena .entry)) (now (table .entry)) (now (bits .entry)) (now (roots .entry))) s i size pointers) r (now (arena .exit)) (now (table .exit)) (now (bits .exit)) (now (roots .exit)) ⌝ }
+    ensures { λ r. ⌜
+        Meets
+        (allocate (lent p (now (arena .entry)) (now (table .entry)) (now (bits .entry)) (now (roots .entry)))
+        s i size pointers)
+        r (now (arena .exit)) (now (table .exit)) (now (bits .exit)) (now (roots .exit)) ⌝ }
 {
     let place = room::choose(p, table, bits, roots, s, i, size, pointers);
     let refusal = place.refusal;

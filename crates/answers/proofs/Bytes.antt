@@ -12,7 +12,7 @@ use lib.Seq.{sets}
 use borrow.Author.Tests.{lt-ltb, le-ltb}
 use Rattle.model.specs.declared.Answer.{Answer}
 use Rattle.model.specs.declared.Answer.the-variants.{Refused, Done, Value, Swept}
-use Rattle.answers.specs.Text.{decimalIn, decimal, answerText, badText, Wrote}
+use Rattle.answers.specs.Text.{decimalIn, decimal, answerText, badText, longestAnswer, Wrote}
 
 -- more places than a number takes make no difference
 enough : (k n : ℕ) → n < 10 ^ suc k → decimalIn (suc (suc k)) n ≡ decimalIn (suc k) n
@@ -68,19 +68,19 @@ then {xs} {ys} {at} {e} {r} {a} {b} {c} v w = record {
 pub byte : (a : List ℕ) (at b : ℕ) → Wrote (b ∷ []) at a (set a at b) (at + 1)
 byte a at b = record { buffer = refl; end = refl }
 
-pub step : {ys : List ℕ} {a c : List ℕ} {r : ℕ} (at b : ℕ) → Wrote ys (at + 1) (set a at b) c r → Wrote (b ∷ ys) at a c r
-step {ys} {a} {c} {r} at b w = record { buffer = w .buffer ∙ rw add-one; end = omega (arith, w .end) }
+pub byte-then : {ys : List ℕ} {a c : List ℕ} {r : ℕ} (at b : ℕ) → Wrote ys (at + 1) (set a at b) c r → Wrote (b ∷ ys) at a c r
+byte-then {ys} {a} {c} {r} at b w = record { buffer = w .buffer ∙ rw add-one; end = omega (arith, w .end) }
 
 -- the place after the last byte, written otherwise
 pub moved : {xs a c : List ℕ} {at e r : ℕ} → e ≡ r → Wrote xs at a c e → Wrote xs at a c r
 moved h w = record { buffer = w .buffer; end = omega (arith, w .end, h) }
 
--- no line is longer than 66 bytes
-pub answer-length : (a : Answer) → length (answerText a) ≤ 66
+-- no line is longer than the longest
+pub answer-length : (a : Answer) → length (answerText a) ≤ longestAnswer
 answer-length (Refused n) = simp length-append (omega (arith, decimal-length n))
 answer-length Done = omega arith
 answer-length (Value v) = simp length-append (omega (arith, decimal-length v))
 answer-length (Swept x y z) = simp length-append (omega (arith, decimal-length x, decimal-length y, decimal-length z))
 
-pub bad-length : (n : ℕ) → length (badText n) ≤ 66
+pub bad-length : (n : ℕ) → length (badText n) ≤ longestAnswer
 bad-length n = simp length-append (omega (arith, decimal-length n))

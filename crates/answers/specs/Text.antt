@@ -22,29 +22,33 @@ abbrev pub spaced : ℕ → List ℕ
 spaced n = 32 ∷ decimal n
 
 -- "Every output line ends with a line feed."
-abbrev pub lineFeed : List ℕ
-lineFeed = 10 ∷ []
+abbrev pub lineEnd : List ℕ
+lineEnd = 10 ∷ []
 
 -- `ok`, `no` and `bad`
-abbrev pub ok : List ℕ
-ok = 111 ∷ 107 ∷ []
+abbrev pub okWord : List ℕ
+okWord = 111 ∷ 107 ∷ []
 
-abbrev pub no : List ℕ
-no = 110 ∷ 111 ∷ []
+abbrev pub noWord : List ℕ
+noWord = 110 ∷ 111 ∷ []
 
-abbrev pub bad : List ℕ
-bad = 98 ∷ 97 ∷ 100 ∷ []
+abbrev pub badWord : List ℕ
+badWord = 98 ∷ 97 ∷ 100 ∷ []
 
 -- "Each line answers `ok` with its numbers (none for O, C, S, W, P, T, F and H) or `no` and the refusal."
 abbrev pub answerText : Answer → List ℕ
-answerText (Refused n) = no ++ spaced n ++ lineFeed
-answerText Done = ok ++ lineFeed
-answerText (Value v) = ok ++ spaced v ++ lineFeed
-answerText (Swept start freed returned) = ok ++ spaced start ++ spaced freed ++ spaced returned ++ lineFeed
+answerText (Refused n) = noWord ++ spaced n ++ lineEnd
+answerText Done = okWord ++ lineEnd
+answerText (Value v) = okWord ++ spaced v ++ lineEnd
+answerText (Swept start freed returned) = okWord ++ spaced start ++ spaced freed ++ spaced returned ++ lineEnd
 
 -- "A line that does not read prints `bad` and its line number"
 abbrev pub badText : ℕ → List ℕ
-badText number = bad ++ spaced number ++ lineFeed
+badText number = badWord ++ spaced number ++ lineEnd
+
+-- no output line is longer: `ok` and three numbers
+abbrev pub longestAnswer : ℕ
+longestAnswer = 66
 
 -- what a function that writes promises: the bytes stand in the buffer from `at` on, nothing else changed, and r is the place after them
 pub record Wrote (bytes : List ℕ) (at : ℕ) (entry exit : List ℕ) (r : ℕ) : Type 0 where

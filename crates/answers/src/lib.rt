@@ -3,7 +3,7 @@
 ghost use Prim.Native.Nat.{_+_, _≤_, _<_};
 ghost use mathlib.Core.List.{[], _∷_};
 ghost use lib.ListN.{length};
-ghost use Rattle.answers.specs.Text.{decimal, spaced, answerText, badText, Wrote};
+ghost use Rattle.answers.specs.Text.{decimal, spaced, answerText, badText, longestAnswer, Wrote};
 use model::Answer;
 
 // No output line is longer.
@@ -50,7 +50,7 @@ fn write_two(out: &mut [u8], at: usize, a: u8, b: u8) -> usize
 }
 
 fn write_done(out: &mut [u8], at: usize) -> usize
-    requires { ⌜ at + 66 ≤ length (now out) ⌝ }
+    requires { ⌜ at + longestAnswer ≤ length (now out) ⌝ }
     ensures { λ r. ⌜ Wrote (answerText Answer.Done) at (now (out .entry)) (now (out .exit)) r ⌝ }
 {
     let e = write_two(out, at, b'o', b'k');
@@ -58,7 +58,7 @@ fn write_done(out: &mut [u8], at: usize) -> usize
 }
 
 fn write_value(out: &mut [u8], at: usize, v: u64) -> usize
-    requires { ⌜ at + 66 ≤ length (now out) ⌝ }
+    requires { ⌜ at + longestAnswer ≤ length (now out) ⌝ }
     ensures { λ r. ⌜ Wrote (answerText (Answer.Value v)) at (now (out .entry)) (now (out .exit)) r ⌝ }
 {
     let e = write_two(out, at, b'o', b'k');
@@ -67,8 +67,9 @@ fn write_value(out: &mut [u8], at: usize, v: u64) -> usize
 }
 
 fn write_swept(out: &mut [u8], at: usize, start: u64, freed: u64, returned: u64) -> usize
-    requires { ⌜ at + 66 ≤ length (now out) ⌝ }
-    ensures { λ r. ⌜ Wrote (answerText (Answer.Swept start freed returned)) at (now (out .entry)) (now (out .exit)) r ⌝ }
+    requires { ⌜ at + longestAnswer ≤ length (now out) ⌝ }
+    ensures { λ r. ⌜
+        Wrote (answerText (Answer.Swept start freed returned)) at (now (out .entry)) (now (out .exit)) r ⌝ }
 {
     let e = write_two(out, at, b'o', b'k');
     let f = write_spaced(out, e, start);
@@ -78,7 +79,7 @@ fn write_swept(out: &mut [u8], at: usize, start: u64, freed: u64, returned: u64)
 }
 
 fn write_refused(out: &mut [u8], at: usize, n: u64) -> usize
-    requires { ⌜ at + 66 ≤ length (now out) ⌝ }
+    requires { ⌜ at + longestAnswer ≤ length (now out) ⌝ }
     ensures { λ r. ⌜ Wrote (answerText (Answer.Refused n)) at (now (out .entry)) (now (out .exit)) r ⌝ }
 {
     let e = write_two(out, at, b'n', b'o');
@@ -88,7 +89,7 @@ fn write_refused(out: &mut [u8], at: usize, n: u64) -> usize
 
 // The line that answers a call.
 pub fn write_answer(out: &mut [u8], at: usize, answer: Answer) -> usize
-    requires { ⌜ at + 66 ≤ length (now out) ⌝ }
+    requires { ⌜ at + longestAnswer ≤ length (now out) ⌝ }
     ensures { λ r. ⌜ Wrote (answerText answer) at (now (out .entry)) (now (out .exit)) r ⌝ }
 {
     match answer {
@@ -101,7 +102,7 @@ pub fn write_answer(out: &mut [u8], at: usize, answer: Answer) -> usize
 
 // The line for a line that does not read, by its number.
 pub fn write_bad(out: &mut [u8], at: usize, number: u64) -> usize
-    requires { ⌜ at + 66 ≤ length (now out) ⌝ }
+    requires { ⌜ at + longestAnswer ≤ length (now out) ⌝ }
     ensures { λ r. ⌜ Wrote (badText number) at (now (out .entry)) (now (out .exit)) r ⌝ }
 {
     let e = write_two(out, at, b'b', b'a');

@@ -7,14 +7,15 @@ use mathlib.Core.Path.{_≡_, refl}
 use lib.Dec.{T, eqb}
 use lib.ListN.{getD}
 use borrow.Author.Tests.{eqb-false, not-true}
-use Rattle.model.specs.Memory.{Heap, phaseAt}
+use Rattle.model.specs.Memory.{Heap, phaseAt, sweep}
 use Rattle.model.specs.Audit.{audit}
 use Rattle.model.proofs.Tests.{is-true, same-test}
 use Rattle.model.specs.Facts.{Spans, Sized, Bits, Phases, States, Occupied, Audited}
+use Rattle.model.specs.Lent.{RootReferences, AllSwept}
 use Rattle.model.proofs.Audit.{audit-facts, facts-audit}
-use Rattle.audit_pages.specs.Pages.{Pages}
-use Rattle.audit_bits.specs.Needs.{Lent}
-use Rattle.audit_words.specs.Contents.{Spanned, Filled, Swept, Told, Roots, Contents}
+use Rattle.model.proofs.Lent.{sized-consistent}
+use Rattle.audit_pages.specs.Pages.{GoodPages}
+use Rattle.audit_words.specs.Contents.{Filled, Told, Contents}
 
 module _ (h : Heap) (Z : Sized h) where
   -- a part says no
@@ -29,27 +30,20 @@ module _ (h : Heap) (Z : Sized h) where
   pub decided : (r : Bool) → (T r → Audited h) → (Audited h → T r) → r ≡ audit h
   decided r f g = same-test r (audit h) (λ x. facts-audit h (f x)) (λ x. g (audit-facts h Z x))
 
-  -- after the page table
-  pub tabled : Spans (h .pages) (h .table) → Lent (h .pages) (h .table) (h .bits)
-  tabled F = record { bitmaps = record { few = Z .high; long = Z .bits }; table = Z .table; spans = F }
-
-  pub spanned : Spans (h .pages) (h .table) → Spanned (h .pages) (h .table) (h .bits)
-  spanned F = record { high = Z .high; table = Z .table; bits = Z .bits; spans = F }
-
-  -- after the bits
+  -- after the page table and the bits
   pub filled : Spans (h .pages) (h .table) → Bits (h .pages) (h .table) (h .bits) → Filled (h .pages) (h .arena) (h .table) (h .bits)
-  filled F B = record { spanned = spanned F; arena = Z .arena; set = B }
+  filled F B = record { consistent = sized-consistent Z F B; arena = Z .arena }
 
-  pub joined : States (h .roots) → Pages (h .pages) (getD (h .roots) phaseAt 0) (h .table) →
+  pub joined : States (h .roots) → GoodPages (h .pages) (getD (h .roots) phaseAt 0) (h .table) →
       Bits (h .pages) (h .table) (h .bits) × Phases (h .pages) (getD (h .roots) phaseAt 0) (h .table) (h .bits) → Occupied (h .pages) (h .table) (h .bits) →
-      Roots (h .pages) (h .table) (h .bits) (h .roots) → Contents (h .pages) (h .arena) (h .table) (h .bits) → Audited h
+      RootReferences (h .pages) (h .table) (h .bits) (h .roots) → Contents (h .pages) (h .arena) (h .table) (h .bits) → Audited h
   joined S F B O R C =
       record { sized = Z; spans = F .spans; bits = B .0; phases = B .1; references = record { root = R; content = C }; states = S; occupied = O }
 
 -- outside the sweep phase no span is unswept
-pub told : (phase : ℕ) (t : List ℕ) → (phase ≢ 2 → Swept t) → Told (not (eqb phase 2)) t
-told phase t h e = h (eqb-false phase 2 (not-true (eqb phase 2) e))
+pub told : (phase : ℕ) (t : List ℕ) → (phase ≢ sweep → AllSwept t) → Told (not (eqb phase sweep)) t
+told phase t h e = h (eqb-false phase sweep (not-true (eqb phase sweep) e))
 
 -- what the page table's part says of an audited heap
-pub paged : (h : Heap) → Audited h → Pages (h .pages) (getD (h .roots) phaseAt 0) (h .table)
+pub paged : (h : Heap) → Audited h → GoodPages (h .pages) (getD (h .roots) phaseAt 0) (h .table)
 paged h F = record { spans = F .spans; swept = F .phases .swept }

@@ -9,7 +9,7 @@ use native.Mathlib.Omega.{arith}
 use native.Mathlib.Nat.{div-add-mod', div-lt-iff-lt-mul, zero-mod, mod-lt, mod-eq-of-lt, mul-add-mod-self-right}
 use lib.Dec.{T, eqb, ltb}
 use borrow.Author.Tests.{eqb-true, eqb-false, ne-eqb}
-use Rattle.model.specs.Memory.{pageWords}
+use Rattle.model.specs.Memory.{pageWords, off, mark, sweep}
 use Rattle.model.specs.Bitmaps.{allocated, marked, gray, pointer}
 use Rattle.model.specs.Spans.{owner, pageCount, isScan, isUnswept, spanOf, elementOf, elementNumber, elementWords, elements}
 use Rattle.model.proofs.Tests.{and-iff, or-iff, eqb-iff, ltb-iff, of-true}
@@ -57,19 +57,19 @@ module _ {a m g q start inside marks grays scan follows : Bool} where
       simp tests (((k .starts, k .marked), k .grayed), (((k .lies, λ x. k .head (x .0) (x .1)), λ x. (k .first (x .0) (x .1), k .lies (x .0) .1)), λ x. k .next (x .0) (x .1)))
 
 -- where marks may stand
-marks-facts : (phase : ℕ) (u : Bool) → T (marksStand phase u) → (phase ≢ 0) × (phase ≡ 2 → T u)
-marks-facts phase u t = go (or-iff (eqb phase 1) (eqb phase 2 && u) .0 t)
+marks-facts : (phase : ℕ) (u : Bool) → T (marksStand phase u) → (phase ≢ off) × (phase ≡ sweep → T u)
+marks-facts phase u t = go (or-iff (eqb phase mark) (eqb phase sweep && u) .0 t)
   where
-    go : (T (eqb phase 1) ⊎ T (eqb phase 2 && u)) → (phase ≢ 0) × (phase ≡ 2 → T u)
-    go (inl x) = let e : phase ≡ 1 = eqb-iff phase 1 .0 x in (omega arith, λ z. absurd (omega arith))
-    go (inr x) = let y = and-iff (eqb phase 2) u .0 x in let e : phase ≡ 2 = eqb-iff phase 2 .0 (y .0) in (omega arith, λ z. y .1)
+    go : (T (eqb phase mark) ⊎ T (eqb phase sweep && u)) → (phase ≢ off) × (phase ≡ sweep → T u)
+    go (inl x) = let e : phase ≡ mark = eqb-iff phase mark .0 x in (omega arith, λ z. absurd (omega arith))
+    go (inr x) = let y = and-iff (eqb phase sweep) u .0 x in let e : phase ≡ sweep = eqb-iff phase sweep .0 (y .0) in (omega arith, λ z. y .1)
 
-facts-marks : (phase : ℕ) (u : Bool) → phase ≤ 2 → phase ≢ 0 → (phase ≡ 2 → T u) → T (marksStand phase u)
-facts-marks phase u l d f = or-iff (eqb phase 1) (eqb phase 2 && u) .1 (go (eqb phase 2) refl)
+facts-marks : (phase : ℕ) (u : Bool) → phase ≤ sweep → phase ≢ off → (phase ≡ sweep → T u) → T (marksStand phase u)
+facts-marks phase u l d f = or-iff (eqb phase mark) (eqb phase sweep && u) .1 (go (eqb phase sweep) refl)
   where
-    go : (c : Bool) → eqb phase 2 ≡ c → T (eqb phase 1) ⊎ T (c && u)
-    go true e = inr (f (eqb-true phase 2 e))
-    go false e = inl (eqb-iff phase 1 .1 (omega (arith, eqb-false phase 2 e)))
+    go : (c : Bool) → eqb phase sweep ≡ c → T (eqb phase mark) ⊎ T (c && u)
+    go true e = inr (f (eqb-true phase sweep e))
+    go false e = inl (eqb-iff phase mark .1 (omega (arith, eqb-false phase sweep e)))
 
 module _ {P : ℕ} {t : List ℕ} (F : Spans P t) (s : ℕ) (i : IsSpan t s) where
   -- word o of the span
@@ -112,7 +112,7 @@ module _ {P : ℕ} {t : List ℕ} (F : Spans P t) (s : ℕ) (i : IsSpan t s) whe
       kept : (o : ℕ) → o < pageWords * pageCount t s →
           Kept (bit P allocated b (pageWords * s + o)) (bit P marked b (pageWords * s + o)) (bit P gray b (pageWords * s + o)) (bit P pointer b (pageWords * s + o))
           (eqb (o % elementWords t s) 0 && ltb o (elements t s * elementWords t s)) (ltb o (elements t s * elementWords t s))
-          (marksStand phase (isUnswept t s)) (eqb phase 1 && isScan t s) (isScan t s) (ltb 0 o && bit P pointer b (pageWords * s + (o - 1)))
+          (marksStand phase (isUnswept t s)) (eqb phase mark && isScan t s) (isScan t s) (ltb 0 o && bit P pointer b (pageWords * s + (o - 1)))
       kept o l = keeps-facts (K o l)
 
       -- a pointer that is not at an element's start follows another
@@ -142,17 +142,17 @@ module _ {P : ℕ} {t : List ℕ} (F : Spans P t) (s : ℕ) (i : IsSpan t s) whe
               let x = and-iff (eqb (o % elementWords t s) 0) (ltb o (elements t s * elementWords t s)) .0 (kept o l .starts a) in
               record { lies = within o l (ltb-iff _ _ .0 (x .1)); first = first-word o l (eqb-iff _ _ .0 (x .0)) }
 
-          marks : T (bit P marked b (pageWords * s + o)) → T (alloc o) × (phase ≢ 0) × (phase ≡ 2 → T (unsweptAt t (pageWords * s + o)))
+          marks : T (bit P marked b (pageWords * s + o)) → T (alloc o) × (phase ≢ off) × (phase ≡ sweep → T (unsweptAt t (pageWords * s + o)))
           marks m =
               let x = kept o l .marked m in
               let y = marks-facts phase (isUnswept t s) (x .1) in
               (x .0, y .0, λ e. rw (here o l .1) (y .1 e))
 
-          grays : T (bit P gray b (pageWords * s + o)) → T (bit P marked b (pageWords * s + o)) × T (scanAt t (pageWords * s + o)) × (phase ≡ 1)
+          grays : T (bit P gray b (pageWords * s + o)) → T (bit P marked b (pageWords * s + o)) × T (scanAt t (pageWords * s + o)) × (phase ≡ mark)
           grays g =
               let x = kept o l .grayed g in
-              let y = and-iff (eqb phase 1) (isScan t s) .0 (x .1) in
-              (x .0, scan-at (y .1), eqb-iff phase 1 .0 (y .0))
+              let y = and-iff (eqb phase mark) (isScan t s) .0 (x .1) in
+              (x .0, scan-at (y .1), eqb-iff phase mark .0 (y .0))
 
           pointers : T (point o) → InElement t (pageWords * s + o) × T (scanAt t (pageWords * s + o)) × T (bit P allocated b (elementOf t (pageWords * s + o)))
           pointers q =
@@ -170,8 +170,8 @@ module _ {P : ℕ} {t : List ℕ} (F : Spans P t) (s : ℕ) (i : IsSpan t s) whe
               rw e (x .1)
 
     -- and back, word by word
-    pub words-span : phase ≤ 2 → (o : ℕ) → o < pageWords * pageCount t s → WordBits P phase t b (pageWords * s + o) → T (spanRule P phase t b s o)
-    words-span legal o l W = facts-keeps (record { starts = starts; marked = mark; grayed = grayed; lies = lies; head = head; first = first; next = next })
+    pub words-span : phase ≤ sweep → (o : ℕ) → o < pageWords * pageCount t s → WordBits P phase t b (pageWords * s + o) → T (spanRule P phase t b s o)
+    words-span legal o l W = facts-keeps (record { starts = starts; marked = marking; grayed = grayed; lies = lies; head = head; first = first; next = next })
       where
         n : ℕ
         n = elementWords t s
@@ -187,11 +187,11 @@ module _ {P : ℕ} {t : List ℕ} (F : Spans P t) (s : ℕ) (i : IsSpan t s) whe
             let E = W .element a in
             and-iff (eqb (o % elementWords t s) 0) (ltb o (elements t s * elementWords t s)) .1 (eqb-iff _ _ .1 (first-mod o l (E .first)), ltb-iff _ _ .1 (within-held o l (E .lies)))
 
-        mark : T (bit P marked b (pageWords * s + o)) → T (alloc o) × T (marksStand phase (isUnswept t s))
-        mark m = let x = W .marks m in (x .0, facts-marks phase (isUnswept t s) legal (x .1) (λ e. rw (here o l .1) at (x .2 e)))
+        marking : T (bit P marked b (pageWords * s + o)) → T (alloc o) × T (marksStand phase (isUnswept t s))
+        marking m = let x = W .marks m in (x .0, facts-marks phase (isUnswept t s) legal (x .1) (λ e. rw (here o l .1) at (x .2 e)))
 
-        grayed : T (bit P gray b (pageWords * s + o)) → T (bit P marked b (pageWords * s + o)) × T (eqb phase 1 && isScan t s)
-        grayed g = let x = W .grays g in (x .0, and-iff (eqb phase 1) (isScan t s) .1 (eqb-iff phase 1 .1 (x .2), scan-of (x .1)))
+        grayed : T (bit P gray b (pageWords * s + o)) → T (bit P marked b (pageWords * s + o)) × T (eqb phase mark && isScan t s)
+        grayed g = let x = W .grays g in (x .0, and-iff (eqb phase mark) (isScan t s) .1 (eqb-iff phase mark .1 (x .2), scan-of (x .1)))
 
         lies : T (point o) → T (ltb o (elements t s * elementWords t s)) × T (isScan t s)
         lies q = let x = W .pointers q in (ltb-iff _ _ .1 (within-held o l (x .0)), scan-of (x .1))
@@ -221,9 +221,9 @@ module _ {P : ℕ} {t : List ℕ} (F : Spans P t) (s : ℕ) (i : IsSpan t s) whe
             e = omega (arith, some)
 
 -- a free page
-off : (c : Bool) → T (not c) → T c → ⊥
-off true n y = n
-off false n y = y
+not-on : (c : Bool) → T (not c) → T c → ⊥
+not-on true n y = n
+not-on false n y = y
 
 none : (c : Bool) → (T c → ⊥) → T (not c)
 none true f = f tt
@@ -235,12 +235,12 @@ module _ {P phase : ℕ} {t b : List ℕ} where
   bare-word w x =
       let y = simp tests at x in
       record {
-        element = λ a. absurd (off (bit P allocated b w) (y .0 .0 .0) a);
-        marks = λ m. absurd (off (bit P marked b w) (y .0 .0 .1) m);
-        grays = λ g. absurd (off (bit P gray b w) (y .0 .1) g);
-        pointers = λ q. absurd (off (bit P pointer b w) (y .1) q);
-        head = λ a. absurd (off (bit P allocated b w) (y .0 .0 .0) a);
-        run = λ q. absurd (off (bit P pointer b w) (y .1) q);
+        element = λ a. absurd (not-on (bit P allocated b w) (y .0 .0 .0) a);
+        marks = λ m. absurd (not-on (bit P marked b w) (y .0 .0 .1) m);
+        grays = λ g. absurd (not-on (bit P gray b w) (y .0 .1) g);
+        pointers = λ q. absurd (not-on (bit P pointer b w) (y .1) q);
+        head = λ a. absurd (not-on (bit P allocated b w) (y .0 .0 .0) a);
+        run = λ q. absurd (not-on (bit P pointer b w) (y .1) q);
       }
 
   pub word-bare : (w : ℕ) → owner t (w / pageWords) ≡ 0 → WordBits P phase t b w → T (bare P b w)

@@ -8,7 +8,7 @@ use native.Mathlib.Omega.{arith}
 use lib.Dec.{T, eqb, ltb}
 use borrow.Author.Tests.{ltb-true, ltb-false, eqb-true, eqb-false, ne-eqb}
 use Rattle.model.specs.Classes.{rows, mostLarge}
-use Rattle.model.specs.Memory.{pageWords, pageBlocks, unsweptFlag}
+use Rattle.model.specs.Memory.{pageWords, pageBlocks, unsweptFlag, mark, sweep}
 use Rattle.model.specs.Bounded.{allBelow, firstBelow}
 use Rattle.model.specs.Bitmaps.{bitAt, allocated, marked, gray, pointer}
 use Rattle.model.specs.Spans.{owner, pageCount, kindEntry, spanOf, elementWords, elements}
@@ -37,7 +37,7 @@ abbrev pub Edge : List ℕ → ℕ → Type 0
 Edge t g = (h : ℕ) → g ≤ h → 0 < owner t h → g ≤ owner t h - 1
 
 -- the next such page
-pub record Next (P : ℕ) (t : List ℕ) (g : ℕ) : Type 0 where
+pub record NextStretch (P : ℕ) (t : List ℕ) (g : ℕ) : Type 0 where
   pub edge : Edge t (g + stretch t g)
   pub inside : g + stretch t g ≤ P
   pub some : 0 < stretch t g
@@ -55,10 +55,10 @@ module _ {P : ℕ} {t : List ℕ} (F : Spans P t) where
   pub edge-begins : (g : ℕ) → g < P → Edge t g → Begins P t g
   edge-begins g l e = record { low = l; first = λ u. omega (arith, e g (omega arith) u, F .whose g u .1) }
 
-  pub next : (g : ℕ) → Edge t g → Begins P t g → Next P t g
+  pub next : (g : ℕ) → Edge t g → Begins P t g → NextStretch P t g
   next g e B = go (eqb (owner t g) 0) refl
     where
-      go : (c : Bool) → eqb (owner t g) 0 ≡ c → Next P t g
+      go : (c : Bool) → eqb (owner t g) 0 ≡ c → NextStretch P t g
       go true p = record { edge = edge; inside = rw p (omega (arith, B .low)); some = rw p (omega arith) }
         where
           edge : Edge t (g + stretch t g)
@@ -99,7 +99,7 @@ module _ {P phase : ℕ} {t b : List ℕ} where
       back : GoodWords P phase t b (pageWords * g) (pageWords * (g + 1)) → T (allBelow pageWords (λ o. bare P b (pageWords * g + o)))
       back W = all-iff pageWords (λ o. bare P b (pageWords * g + o)) .1 (λ o l. let z : (pageWords * g + o) / pageWords ≡ g = omega arith in word-bare (pageWords * g + o) (ap (owner t) z ∙ e) (W (pageWords * g + o) (omega arith) (omega arith)))
 
-  pub span-good : Spans P t → phase ≤ 2 → (g : ℕ) → IsSpan t g → (r : Bool) → r ≡ allBelow (64 * (pageBlocks * pageCount t g)) (spanRule P phase t b g) →
+  pub span-good : Spans P t → phase ≤ sweep → (g : ℕ) → IsSpan t g → (r : Bool) → r ≡ allBelow (64 * (pageBlocks * pageCount t g)) (spanRule P phase t b g) →
       T r ↔ GoodWords P phase t b (pageWords * g) (pageWords * (g + stretch t g))
   span-good F legal g i r p = rw (p, ne-eqb (owner t g) 0 (omega arith)) (there, back)
     where
@@ -159,12 +159,12 @@ module _ {P phase : ℕ} {t b : List ℕ} where
     run = B .run w;
   }
     where
-      lit : T (bit P gray b w) → phase ≡ 1
-      lit x = go (eqb phase 1) refl
+      lit : T (bit P gray b w) → phase ≡ mark
+      lit x = go (eqb phase mark) refl
         where
-          go : (c : Bool) → eqb phase 1 ≡ c → phase ≡ 1
-          go true e = eqb-true phase 1 e
-          go false e = clash (bit P gray b w) (of-true _ x) (H .plain (eqb-false phase 1 e) w)
+          go : (c : Bool) → eqb phase mark ≡ c → phase ≡ mark
+          go true e = eqb-true phase mark e
+          go false e = clash (bit P gray b w) (of-true _ x) (H .plain (eqb-false phase mark e) w)
 
 -- the spans that have an allocated word
 module _ {P : ℕ} {t : List ℕ} (F : Spans P t) (b : List ℕ) where

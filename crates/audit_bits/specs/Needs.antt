@@ -1,28 +1,16 @@
--- What the functions require of the buffers that they read.
-use Prim.Native.Nat.{ℕ, _+_, _*_, _<_, _≤_}
+-- What the functions require of the phase, of a span's shape and of a page, beside the buffers.
+use Prim.Native.Nat.{ℕ, _+_, _<_, _≤_}
 use mathlib.Core.List.{List}
 use mathlib.Core.Logic.{_≢_}
-use mathlib.Core.Path.{_≡_}
-use lib.ListN.{length}
-use Rattle.model.specs.Memory.{maxPages, bitmapWords, entryNumbers, unsweptFlag}
-use Rattle.model.specs.Spans.{owner, kindEntry}
-use Rattle.model.specs.Facts.{Spans, IsSpan}
-
--- the bitmaps of an arena of P pages
-pub record Bitmaps (P : ℕ) (b : List ℕ) : Type 0 where
-  pub few : P ≤ maxPages
-  pub long : length b ≡ bitmapWords * P
-
--- .. with a page table that the audit passed
-pub record Lent (P : ℕ) (t b : List ℕ) : Type 0 where
-  pub bitmaps : Bitmaps P b
-  pub table : length t ≡ entryNumbers * P
-  pub spans : Spans P t
+use Rattle.model.specs.Memory.{sweep}
+use Rattle.model.specs.Spans.{owner}
+use Rattle.model.specs.Facts.{IsSpan}
+use Rattle.model.specs.Lent.{AllSwept}
 
 -- a legal phase, with unswept spans only in phase sweep
 pub record Phased (phase : ℕ) (t : List ℕ) : Type 0 where
-  pub legal : phase ≤ 2
-  pub swept : phase ≢ 2 → (s : ℕ) → IsSpan t s → kindEntry t s < unsweptFlag
+  pub legal : phase ≤ sweep
+  pub swept : phase ≢ sweep → AllSwept t
 
 -- a span of so many pages from page s on lies in the arena, and its elements have words
 pub record Shaped (P s count size : ℕ) : Type 0 where

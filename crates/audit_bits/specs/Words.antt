@@ -5,14 +5,15 @@ use mathlib.Core.List.{List}
 use mathlib.Core.Logic.{_≢_}
 use mathlib.Core.Path.{_≡_}
 use lib.Dec.{T}
+use Rattle.model.specs.Memory.{off, mark, sweep}
 use Rattle.model.specs.Bitmaps.{allocated, marked, gray, pointer}
 use Rattle.model.specs.Spans.{pageCount, spanOf, elementOf, isFree}
 use Rattle.model.specs.Facts.{IsSpan, InElement, Element, bit, scanAt, unsweptAt}
 
 pub record WordBits (P phase : ℕ) (t b : List ℕ) (w : ℕ) : Type 0 where
   pub element : T (bit P allocated b w) → Element t w
-  pub marks : T (bit P marked b w) → T (bit P allocated b w) × (phase ≢ 0) × (phase ≡ 2 → T (unsweptAt t w))
-  pub grays : T (bit P gray b w) → T (bit P marked b w) × T (scanAt t w) × (phase ≡ 1)
+  pub marks : T (bit P marked b w) → T (bit P allocated b w) × (phase ≢ off) × (phase ≡ sweep → T (unsweptAt t w))
+  pub grays : T (bit P gray b w) → T (bit P marked b w) × T (scanAt t w) × (phase ≡ mark)
   pub pointers : T (bit P pointer b w) → InElement t w × T (scanAt t w) × T (bit P allocated b (elementOf t w))
   pub head : T (bit P allocated b w) → T (scanAt t w) → T (bit P pointer b w)
   pub run : T (bit P pointer b w) → elementOf t w ≢ w → T (bit P pointer b (w - 1))

@@ -6,15 +6,14 @@ ghost use mathlib.Core.Bool.{_&&_, cond};
 ghost use mathlib.Core.Logic.{_↔_};
 ghost use Prim.Native.Nat.{ℕ, _+_, _-_, _*_, _^_, _<_};
 ghost use lib.Dec.{T};
-ghost use lib.ListN.{length};
 ghost use Rattle.model.specs.Bounded.{_==_, _<?_, _≤?_, allBelow};
-ghost use Rattle.model.specs.Memory.{entryNumbers, mark, pageWords, pageBlocks, unsweptFlag};
+ghost use Rattle.model.specs.Memory.{mark, pageWords, pageBlocks, unsweptFlag};
 ghost use Rattle.model.specs.Spans.{pageCount};
-ghost use Rattle.model.specs.Facts.{IsSpan};
 ghost use Rattle.model.specs.Facts.{Bits, Phases, Occupied};
+ghost use Rattle.model.specs.Lent.{HasEntry, Bitmaps, Mapped, MappedSpan, Consistent};
 ghost use Rattle.audit_blocks.specs.Block.{on};
 ghost use Rattle.audit_bits.specs.Words.{GoodWords, Used, stretch};
-ghost use Rattle.audit_bits.specs.Needs.{Bitmaps, Lent, Phased, Shaped, Begins};
+ghost use Rattle.audit_bits.specs.Needs.{Phased, Shaped, Begins};
 ghost use Rattle.audit_bits.specs.Rules.{bare, blockRule, wordRule, marksStand, spanRule};
 use audit_blocks::colours_ok;
 use audit_blocks::pointers_ok;
@@ -130,7 +129,9 @@ fn blocks_ok(
     scan: bool,
 ) -> bool
     requires { ⌜ Bitmaps p (now bits) × Shaped p s count size ⌝ }
-    ensures { λ r. ⌜ r ≡ allBelow (64 * (pageBlocks * count)) (wordRule p (now (bits .entry)) (pageWords * s) size held marks grays scan) ⌝ }
+    ensures { λ r. ⌜
+        r ≡ allBelow (64 * (pageBlocks * count))
+        (wordRule p (now (bits .entry)) (pageWords * s) size held marks grays scan) ⌝ }
 {
     let marked = flag(marks);
     let gray = flag(grays);
@@ -201,8 +202,10 @@ fn grays_stand(phase: u64, scan: bool) -> bool
 
 // The bits of the span at page s keep the rules.
 pub fn span_bits_ok(p: usize, table: &[u32], bits: &[u64], phase: u64, s: usize) -> bool
-    requires { ⌜ Lent p (now table) (now bits) × IsSpan (now table) s ⌝ }
-    ensures { λ r. ⌜ r ≡ allBelow (64 * (pageBlocks * pageCount (now (table .entry)) s)) (spanRule p phase (now (table .entry)) (now (bits .entry)) s) ⌝ }
+    requires { ⌜ MappedSpan p (now table) (now bits) s ⌝ }
+    ensures { λ r. ⌜
+        r ≡ allBelow (64 * (pageBlocks * pageCount (now (table .entry)) s))
+        (spanRule p phase (now (table .entry)) (now (bits .entry)) s) ⌝ }
 {
     let count = page_count(table, s);
     let entry = kind_entry(table, s);
@@ -217,7 +220,7 @@ pub fn span_bits_ok(p: usize, table: &[u32], bits: &[u64], phase: u64, s: usize)
 
 // The pages of the span at page g; a free page alone.
 fn stretch(table: &[u32], g: usize) -> usize
-    requires { ⌜ entryNumbers * g + 2 < length (now table) ⌝ }
+    requires { ⌜ HasEntry (now table) g ⌝ }
     ensures { λ r. ⌜ r ≡ stretch (now (table .entry)) g ⌝ }
 {
     if owner(table, g) == 0 {
@@ -228,8 +231,10 @@ fn stretch(table: &[u32], g: usize) -> usize
 
 // The bits of page g, a free one, or of the span that starts there, keep the rules.
 fn stretch_ok(p: usize, table: &[u32], bits: &[u64], phase: u64, g: usize) -> bool
-    requires { ⌜ Lent p (now table) (now bits) × Phased phase (now table) × Begins p (now table) g ⌝ }
-    ensures { λ r. ⌜ T r ↔ GoodWords p phase (now (table .entry)) (now (bits .entry)) (pageWords * g) (pageWords * (g + stretch (now (table .entry)) g)) ⌝ }
+    requires { ⌜ Mapped p (now table) (now bits) × Phased phase (now table) × Begins p (now table) g ⌝ }
+    ensures { λ r. ⌜
+        T r ↔ GoodWords p phase (now (table .entry)) (now (bits .entry)) (pageWords * g)
+        (pageWords * (g + stretch (now (table .entry)) g)) ⌝ }
 {
     if owner(table, g) == 0 {
         return free_page_ok(p, bits, g);
@@ -239,8 +244,10 @@ fn stretch_ok(p: usize, table: &[u32], bits: &[u64], phase: u64, g: usize) -> bo
 
 // The audit's clauses about bits, also where they depend on the phase. The page table has passed it.
 pub fn bits_ok(p: usize, table: &[u32], bits: &[u64], phase: u64) -> bool
-    requires { ⌜ Lent p (now table) (now bits) × Phased phase (now table) ⌝ }
-    ensures { λ r. ⌜ T r ↔ (Bits p (now (table .entry)) (now (bits .entry)) × Phases p phase (now (table .entry)) (now (bits .entry))) ⌝ }
+    requires { ⌜ Mapped p (now table) (now bits) × Phased phase (now table) ⌝ }
+    ensures { λ r. ⌜
+        T r ↔ (Bits p (now (table .entry)) (now (bits .entry)) ×
+        Phases p phase (now (table .entry)) (now (bits .entry))) ⌝ }
 {
     let mut g = 0;
     while g < p {
@@ -255,7 +262,7 @@ pub fn bits_ok(p: usize, table: &[u32], bits: &[u64], phase: u64) -> bool
 
 // Page g is free, or the span that starts there has an allocated element.
 fn stretch_occupied(p: usize, table: &[u32], bits: &[u64], g: usize) -> bool
-    requires { ⌜ Lent p (now table) (now bits) × Bits p (now table) (now bits) × Begins p (now table) g ⌝ }
+    requires { ⌜ Consistent p (now table) (now bits) × Begins p (now table) g ⌝ }
     ensures { λ r. ⌜ T r ↔ Used p (now (table .entry)) (now (bits .entry)) g ⌝ }
 {
     if owner(table, g) == 0 {
@@ -268,7 +275,7 @@ fn stretch_occupied(p: usize, table: &[u32], bits: &[u64], g: usize) -> bool
 
 // Each span has an allocated element. The bits have passed the audit.
 pub fn occupied_ok(p: usize, table: &[u32], bits: &[u64]) -> bool
-    requires { ⌜ Lent p (now table) (now bits) × Bits p (now table) (now bits) ⌝ }
+    requires { ⌜ Consistent p (now table) (now bits) ⌝ }
     ensures { λ r. ⌜ T r ↔ Occupied p (now (table .entry)) (now (bits .entry)) ⌝ }
 {
     let mut g = 0;

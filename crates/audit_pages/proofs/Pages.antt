@@ -1,25 +1,26 @@
 -- The page table. `Upto` is what is known where the pass has come to page g; a step keeps it, a fault refutes the table, and at the end it is
 -- the whole table.
-use Prim.Native.Nat.{ℕ, _+_, _-_, _*_, _/_, _%_, _<_, _≤_}
+use Prim.Native.Nat.{ℕ, _+_, _-_, _/_, _%_, _<_, _≤_}
 use mathlib.Core.Bool.{Bool, true, false, not}
 use mathlib.Core.List.{List}
 use mathlib.Core.Logic.{_≢_, _↔_}
 use mathlib.Core.Path.{_≡_, refl, sym, _∙_}
 use native.Mathlib.Omega.{arith}
 use lib.Dec.{T, eqb, ltb, leb}
-use lib.ListN.{length, List·getD-eq-default}
+use lib.ListN.{List·getD-eq-default}
 use borrow.Author.Tests.{ltb-true, ltb-false, eqb-true, eqb-false}
-use Rattle.model.specs.Memory.{firstGlobal, entryNumbers, unsweptFlag}
+use Rattle.model.specs.Memory.{unsweptFlag, sweep}
 use Rattle.model.specs.Classes.{classPages, kinds, fewestLarge, mostLarge}
 use Rattle.model.specs.Spans.{owner, pageCount, kindEntry}
 use Rattle.model.proofs.Tests.{eqb-iff, leb-iff}
 use Rattle.model.specs.Facts.{IsSpan, GoodEntry}
+use Rattle.model.specs.Lent.{PageTable}
 use Rattle.model.proofs.Spans.{entry-fits}
 use Rattle.model.proofs.Answers.{no}
-use Rattle.audit_pages.specs.Pages.{Pages, Further, Body, First, Step}
+use Rattle.audit_pages.specs.Pages.{GoodPages, Further, Body, GoodSpan, PassedPages}
 
 -- the entry of a span's first page: of a class with a page count of its own, of class 0
-module _ (kind count : ℕ) (f : kind < firstGlobal) (k : kind % unsweptFlag < kinds) where
+module _ (kind count : ℕ) (f : kind < unsweptFlag + unsweptFlag) (k : kind % unsweptFlag < kinds) where
   pub class-entry : (pages : ℕ) → kind % unsweptFlag / 2 ≢ 0 → pages ≡ classPages (kind % unsweptFlag / 2) → T (eqb count pages) ↔ GoodEntry kind count
   class-entry pages d e =
       (λ x. record { flag = f; kind = k; large = λ z. absurd (d z); small = λ _. eqb-iff count pages .0 x ∙ e }, λ G. eqb-iff count pages .1 (G .small d ∙ sym e))
@@ -40,11 +41,11 @@ body-more t s g e f h k a b d = go (eqb k g) refl
     go false q = f k a (omega (arith, eqb-false k g q)) d
 
 -- a span has pages
-pub first-count : {p ph : ℕ} {t : List ℕ} {s : ℕ} → First p ph t s → 0 < pageCount t s
+pub first-count : {p ph : ℕ} {t : List ℕ} {s : ℕ} → GoodSpan p ph t s → 0 < pageCount t s
 first-count {p} {ph} {t} {s} f = entry-fits (kindEntry t s) (pageCount t s) (f .entry) .pages
 
 -- the whole table gives what is asked of each span
-pub first-of : {p ph : ℕ} {t : List ℕ} → Pages p ph t → (s : ℕ) → IsSpan t s → First p ph t s
+pub first-of : {p ph : ℕ} {t : List ℕ} → GoodPages p ph t → (s : ℕ) → IsSpan t s → GoodSpan p ph t s
 first-of {p} {ph} {t} F s e = record { entry = F .spans .entry s e; inside = F .spans .inside s e; body = body; swept = λ d. F .swept d s e }
   where
     body : Body t s
@@ -55,28 +56,28 @@ first-of {p} {ph} {t} F s e = record { entry = F .spans .entry s e; inside = F .
 
 -- a span's first page, of which the kind and the count are known
 module _ (p ph : ℕ) (t : List ℕ) (s kind count : ℕ) (k : kind ≡ kindEntry t s) (n : count ≡ pageCount t s) where
-  pub bad-entry : (b : Bool) → T b ↔ GoodEntry kind count → not b ≡ true → First p ph t s → ⊥
+  pub bad-entry : (b : Bool) → T b ↔ GoodEntry kind count → not b ≡ true → GoodSpan p ph t s → ⊥
   bad-entry b f e F = no b f e (rw (k, n) (F .entry))
 
-  pub bad-flag : (b : Bool) → T b ↔ (ph ≢ 2 → kind < unsweptFlag) → not b ≡ true → First p ph t s → ⊥
+  pub bad-flag : (b : Bool) → T b ↔ (ph ≢ sweep → kind < unsweptFlag) → not b ≡ true → GoodSpan p ph t s → ⊥
   bad-flag b f e F = no b f e (λ d. rw k (F .swept d))
 
-  pub first-iff : (b : Bool) → GoodEntry kind count → s + count ≤ p → (ph ≢ 2 → kind < unsweptFlag) → T b ↔ Body t s → T b ↔ First p ph t s
+  pub first-iff : (b : Bool) → GoodEntry kind count → s + count ≤ p → (ph ≢ sweep → kind < unsweptFlag) → T b ↔ Body t s → T b ↔ GoodSpan p ph t s
   first-iff b e i d f =
       (λ x. record { entry = rw (k, n) at e; inside = rw n at i; body = f .0 x; swept = λ q. rw k at (d q) }, λ F. f .1 (F .body))
 
 -- a step at a page that starts a span
 module _ (p ph : ℕ) (t : List ℕ) (g : ℕ) (o : owner t g ≡ g + 1) where
-  pub bad-span : (First p ph t g → ⊥) → Step p ph t g 0
+  pub bad-span : (GoodSpan p ph t g → ⊥) → PassedPages p ph t g 0
   bad-span d = record { free = λ z. absurd (z refl); span = λ z. absurd (z refl); dirty = λ _ z. absurd (omega arith); bad = λ _ _. d }
 
-  pub good-span : (n : ℕ) → n ≡ pageCount t g → First p ph t g → Step p ph t g n
+  pub good-span : (n : ℕ) → n ≡ pageCount t g → GoodSpan p ph t g → PassedPages p ph t g n
   good-span n e F = record { free = λ _ z. absurd (omega arith); span = λ _ _. (o, e, F); dirty = λ _ z. absurd (omega arith); bad = λ z _ _. omega (arith, first-count F) }
 
 -- the pass has come to page g: the pages below it are as they should be, and no span goes on there
 pub record Upto (p ph : ℕ) (t : List ℕ) (g : ℕ) : Type 0 where
   pub fit : g ≤ p
-  pub first : (s : ℕ) → s < g → IsSpan t s → First p ph t s × (s + pageCount t s ≤ g)
+  pub first : (s : ℕ) → s < g → IsSpan t s → GoodSpan p ph t s × (s + pageCount t s ≤ g)
   pub rest : (k : ℕ) → k < g → owner t k ≢ k + 1 → (pageCount t k ≡ 0) × (kindEntry t k ≡ 0)
   pub whose : (k : ℕ) → k < g → 0 < owner t k → IsSpan t (owner t k - 1) × (owner t k - 1 ≤ k) × (k < owner t k - 1 + pageCount t (owner t k - 1))
 
@@ -86,7 +87,7 @@ module _ (p ph : ℕ) (t : List ℕ) where
 
   module _ (g : ℕ) (U : Upto p ph t g) (l : g < p) where
     -- a step
-    module _ (n : ℕ) (S : Step p ph t g n) (d : n ≢ 0) where
+    module _ (n : ℕ) (S : PassedPages p ph t g n) (d : n ≢ 0) where
       free : owner t g ≡ 0 → Upto p ph t (g + n)
       free z = record { fit = omega (arith, one); first = λ s m e. first s m e (ltb s g) refl; rest = λ k m e. rest k m e (ltb k g) refl; whose = λ k m u. whose k m u (ltb k g) refl }
         where
@@ -96,7 +97,7 @@ module _ (p ph : ℕ) (t : List ℕ) where
           here : (k : ℕ) → k < g + n → ltb k g ≡ false → k ≡ g
           here k m e = omega (arith, one, ltb-false k g e)
 
-          first : (s : ℕ) → s < g + n → IsSpan t s → (b : Bool) → ltb s g ≡ b → First p ph t s × (s + pageCount t s ≤ g + n)
+          first : (s : ℕ) → s < g + n → IsSpan t s → (b : Bool) → ltb s g ≡ b → GoodSpan p ph t s × (s + pageCount t s ≤ g + n)
           first s m e true q = let x = U .first s (ltb-true s g q) e in (x .0, omega (arith, x .1))
           first s m e false q = absurd (omega (arith, rw (here s m q) at e))
 
@@ -111,7 +112,7 @@ module _ (p ph : ℕ) (t : List ℕ) where
       span : owner t g ≢ 0 → Upto p ph t (g + n)
       span z = record { fit = omega (arith, size, f .inside); first = λ s m e. first s m e (ltb s g) refl (eqb s g) refl; rest = λ k m e. rest k m e (ltb k g) refl (eqb k g) refl; whose = λ k m u. whose k m u (ltb k g) refl (eqb k g) refl }
         where
-          f : First p ph t g
+          f : GoodSpan p ph t g
           f = S .span d z .2
 
           starts : owner t g ≡ g + 1
@@ -123,7 +124,7 @@ module _ (p ph : ℕ) (t : List ℕ) where
           body : (k : ℕ) → k < g + n → ltb k g ≡ false → eqb k g ≡ false → Further t g k
           body k m q r = f .body k (omega (arith, ltb-false k g q, eqb-false k g r)) (omega (arith, size))
 
-          first : (s : ℕ) → s < g + n → IsSpan t s → (b : Bool) → ltb s g ≡ b → (c : Bool) → eqb s g ≡ c → First p ph t s × (s + pageCount t s ≤ g + n)
+          first : (s : ℕ) → s < g + n → IsSpan t s → (b : Bool) → ltb s g ≡ b → (c : Bool) → eqb s g ≡ c → GoodSpan p ph t s × (s + pageCount t s ≤ g + n)
           first s m e true q c r = let x = U .first s (ltb-true s g q) e in (x .0, omega (arith, x .1))
           first s m e false q true r = rw (eqb-true s g r) (f, omega (arith, size))
           first s m e false q false r = absurd (omega (arith, body s m q r .owned, eqb-false s g r))
@@ -150,7 +151,7 @@ module _ (p ph : ℕ) (t : List ℕ) where
           go true e = free (eqb-true (owner t g) 0 e)
           go false e = span (eqb-false (owner t g) 0 e)
 
-    pub step-fits : (n : ℕ) → Step p ph t g n → g + n ≤ p
+    pub step-fits : (n : ℕ) → PassedPages p ph t g n → g + n ≤ p
     step-fits n S = go (eqb n 0) refl
       where
         go : (b : Bool) → eqb n 0 ≡ b → g + n ≤ p
@@ -158,7 +159,7 @@ module _ (p ph : ℕ) (t : List ℕ) where
         go false e = step n S (eqb-false n 0 e) .fit
 
     -- a fault
-    pub fault : Step p ph t g 0 → Pages p ph t → ⊥
+    pub fault : PassedPages p ph t g 0 → GoodPages p ph t → ⊥
     fault S F = go (eqb (owner t g) 0) refl (eqb (owner t g) (g + 1)) refl
       where
         go : (a : Bool) → eqb (owner t g) 0 ≡ a → (b : Bool) → eqb (owner t g) (g + 1) ≡ b → ⊥
@@ -170,12 +171,12 @@ module _ (p ph : ℕ) (t : List ℕ) where
             omega (arith, x .1, w .2)
 
   -- a page past the end reads as free
-  past : length t ≡ entryNumbers * p → (g : ℕ) → p ≤ g → (owner t g ≡ 0) × (pageCount t g ≡ 0) × (kindEntry t g ≡ 0)
+  past : PageTable p t → (g : ℕ) → p ≤ g → (owner t g ≡ 0) × (pageCount t g ≡ 0) × (kindEntry t g ≡ 0)
   unfolding owner pageCount kindEntry
   past z g l = (List·getD-eq-default t 0 (omega arith), List·getD-eq-default t 0 (omega arith), List·getD-eq-default t 0 (omega arith))
 
   -- the end
-  pub whole : length t ≡ entryNumbers * p → Upto p ph t p → Pages p ph t
+  pub whole : PageTable p t → Upto p ph t p → GoodPages p ph t
   whole z U = record {
     spans = record {
       whose = λ g u. U .whose g (used g u) u;

@@ -3,14 +3,15 @@ use Prim.Native.Nat.{ℕ, _+_, _<_, _≤_}
 use mathlib.Core.List.{List}
 use mathlib.Core.Logic.{_≢_}
 use mathlib.Core.Path.{_≡_}
-use Rattle.model.specs.Memory.{unsweptFlag}
+use Rattle.model.specs.Memory.{unsweptFlag, sweep}
 use Rattle.model.specs.Spans.{owner, pageCount, kindEntry}
-use Rattle.model.specs.Facts.{Spans, IsSpan, GoodEntry}
+use Rattle.model.specs.Facts.{Spans, GoodEntry}
+use Rattle.model.specs.Lent.{AllSwept}
 
 -- the page table of p pages is as the document says, and "unswept only in phase sweep"
-pub record Pages (p ph : ℕ) (t : List ℕ) : Type 0 where
+pub record GoodPages (p ph : ℕ) (t : List ℕ) : Type 0 where
   pub spans : Spans p t
-  pub swept : ph ≢ 2 → (s : ℕ) → IsSpan t s → kindEntry t s < unsweptFlag
+  pub swept : ph ≢ sweep → AllSwept t
 
 -- page g is a further page of the span at page s: "s+1, 0, 0"
 pub record Further (t : List ℕ) (s g : ℕ) : Type 0 where
@@ -23,15 +24,15 @@ abbrev pub Body : List ℕ → ℕ → Type 0
 Body t s = (g : ℕ) → s < g → g < s + pageCount t s → Further t s g
 
 -- what is asked of a span that starts at page s
-pub record First (p ph : ℕ) (t : List ℕ) (s : ℕ) : Type 0 where
+pub record GoodSpan (p ph : ℕ) (t : List ℕ) (s : ℕ) : Type 0 where
   pub entry : GoodEntry (kindEntry t s) (pageCount t s)
   pub inside : s + pageCount t s ≤ p
   pub body : Body t s
-  pub swept : ph ≢ 2 → kindEntry t s < unsweptFlag
+  pub swept : ph ≢ sweep → kindEntry t s < unsweptFlag
 
 -- from page g on n pages are passed, a free page or a whole span; 0 is a fault
-pub record Step (p ph : ℕ) (t : List ℕ) (g n : ℕ) : Type 0 where
+pub record PassedPages (p ph : ℕ) (t : List ℕ) (g n : ℕ) : Type 0 where
   pub free : n ≢ 0 → owner t g ≡ 0 → (n ≡ 1) × (pageCount t g ≡ 0) × (kindEntry t g ≡ 0)
-  pub span : n ≢ 0 → owner t g ≢ 0 → (owner t g ≡ g + 1) × (n ≡ pageCount t g) × First p ph t g
+  pub span : n ≢ 0 → owner t g ≢ 0 → (owner t g ≡ g + 1) × (n ≡ pageCount t g) × GoodSpan p ph t g
   pub dirty : n ≡ 0 → owner t g ≡ 0 → (pageCount t g ≡ 0) × (kindEntry t g ≡ 0) → ⊥
-  pub bad : n ≡ 0 → owner t g ≡ g + 1 → First p ph t g → ⊥
+  pub bad : n ≡ 0 → owner t g ≡ g + 1 → GoodSpan p ph t g → ⊥

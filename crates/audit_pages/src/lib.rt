@@ -3,15 +3,14 @@
 // free or starts a span, and nothing else may stand there.
 ghost use mathlib.Core.Path.{_≡_};
 ghost use mathlib.Core.Logic.{_↔_, _≢_};
-ghost use Prim.Native.Nat.{ℕ, _+_, _*_, _<_, _≤_};
+ghost use Prim.Native.Nat.{ℕ, _+_, _<_, _≤_};
 ghost use lib.Dec.{T};
-ghost use lib.ListN.{length};
-ghost use Rattle.model.specs.Memory.{maxPages, entryNumbers, rootWords, unsweptFlag, stackCount, sweep};
+ghost use Rattle.model.specs.Memory.{maxPages, unsweptFlag, stackCount, sweep};
 ghost use Rattle.model.specs.Spans.{pageCount};
-ghost use Rattle.model.specs.Facts.{GoodEntry};
-ghost use Rattle.model.specs.Facts.{States};
-ghost use Rattle.audit_pages.specs.Stacks.{Phase, Empty, Stack};
-ghost use Rattle.audit_pages.specs.Pages.{Pages, Further, Body, First, Step};
+ghost use Rattle.model.specs.Facts.{GoodEntry, States};
+ghost use Rattle.model.specs.Lent.{Roots, PageTable, HasEntry};
+ghost use Rattle.audit_pages.specs.Stacks.{GoodPhase, EmptyStack, GoodStack};
+ghost use Rattle.audit_pages.specs.Pages.{GoodPages, Further, Body, GoodSpan, PassedPages};
 use units::CLOSED;
 use units::FIRST_STATE;
 use units::GLOBALS_STATE;
@@ -40,8 +39,8 @@ const MOST_LARGE: usize = 128;
 
 // All slots of stack s are nil.
 fn slots_nil(roots: &[u64], s: usize) -> bool
-    requires { ⌜ (length (now roots) ≡ rootWords) × (s < stackCount) ⌝ }
-    ensures { λ r. ⌜ (T r ↔ Empty (now (roots .entry)) s) ⌝ }
+    requires { ⌜ Roots (now roots) × (s < stackCount) ⌝ }
+    ensures { λ r. ⌜ (T r ↔ EmptyStack (now (roots .entry)) s) ⌝ }
 {
     let first = SLOTS * s;
     let mut i = 0;
@@ -57,8 +56,8 @@ fn slots_nil(roots: &[u64], s: usize) -> bool
 
 // Stack s has a legal state, gray only in the mark phase; a closed one is all nil.
 fn stack_ok(roots: &[u64], s: usize) -> bool
-    requires { ⌜ (length (now roots) ≡ rootWords) × (s < stackCount) ⌝ }
-    ensures { λ r. ⌜ (T r ↔ Stack (now (roots .entry)) s) ⌝ }
+    requires { ⌜ Roots (now roots) × (s < stackCount) ⌝ }
+    ensures { λ r. ⌜ (T r ↔ GoodStack (now (roots .entry)) s) ⌝ }
 {
     let state = roots[FIRST_STATE + s];
     if state == CLOSED {
@@ -72,8 +71,8 @@ fn stack_ok(roots: &[u64], s: usize) -> bool
 
 // Every stack is as it should be.
 fn stacks_ok(roots: &[u64]) -> bool
-    requires { ⌜ length (now roots) ≡ rootWords ⌝ }
-    ensures { λ r. ⌜ (T r ↔ ((s : ℕ) → s < stackCount → Stack (now (roots .entry)) s)) ⌝ }
+    requires { ⌜ Roots (now roots) ⌝ }
+    ensures { λ r. ⌜ (T r ↔ ((s : ℕ) → s < stackCount → GoodStack (now (roots .entry)) s)) ⌝ }
 {
     let mut s = 0;
     while s < STACKS {
@@ -88,8 +87,8 @@ fn stacks_ok(roots: &[u64]) -> bool
 
 // The phase and the globals' state are legal, gray globals only in the mark phase.
 fn phase_ok(roots: &[u64]) -> bool
-    requires { ⌜ length (now roots) ≡ rootWords ⌝ }
-    ensures { λ r. ⌜ (T r ↔ Phase (now (roots .entry))) ⌝ }
+    requires { ⌜ Roots (now roots) ⌝ }
+    ensures { λ r. ⌜ (T r ↔ GoodPhase (now (roots .entry))) ⌝ }
 {
     let phase = roots[PHASE];
     let state = roots[GLOBALS_STATE];
@@ -104,7 +103,7 @@ fn phase_ok(roots: &[u64]) -> bool
 
 // The states and the phase are legal, and closed stacks are all nil.
 pub fn states_ok(roots: &[u64]) -> bool
-    requires { ⌜ length (now roots) ≡ rootWords ⌝ }
+    requires { ⌜ Roots (now roots) ⌝ }
     ensures { λ r. ⌜ (T r ↔ States (now (roots .entry))) ⌝ }
 {
     if !phase_ok(roots) {
@@ -146,7 +145,7 @@ fn flag_ok(kind: usize, phase: u64) -> bool
 
 // Page g is a further page of the span at page s.
 fn further_ok(table: &[u32], s: usize, g: usize) -> bool
-    requires { ⌜ (entryNumbers * g + 2 < length (now table)) × (s < g) ⌝ }
+    requires { ⌜ HasEntry (now table) g × (s < g) ⌝ }
     ensures { λ r. ⌜ (T r ↔ Further (now (table .entry)) s g) ⌝ }
 {
     if pages::owner(table, g) != s + 1 {
@@ -160,7 +159,7 @@ fn further_ok(table: &[u32], s: usize, g: usize) -> bool
 
 // So are all pages of the span at page s but its first.
 fn body_ok(p: usize, table: &[u32], s: usize, count: usize) -> bool
-    requires { ⌜ (length (now table) ≡ entryNumbers * p) × (s + count ≤ p) × (count ≡ pageCount (now table) s) ⌝ }
+    requires { ⌜ PageTable p (now table) × (s + count ≤ p) × (count ≡ pageCount (now table) s) ⌝ }
     ensures { λ r. ⌜ (T r ↔ Body (now (table .entry)) s) ⌝ }
 {
     let end = s + count;
@@ -177,8 +176,8 @@ fn body_ok(p: usize, table: &[u32], s: usize, count: usize) -> bool
 
 // The span that starts at page s is as it should be.
 fn span_ok(p: usize, table: &[u32], phase: u64, s: usize) -> bool
-    requires { ⌜ (length (now table) ≡ entryNumbers * p) × (p ≤ maxPages) × (s < p) ⌝ }
-    ensures { λ r. ⌜ (T r ↔ First p phase (now (table .entry)) s) ⌝ }
+    requires { ⌜ PageTable p (now table) × (p ≤ maxPages) × (s < p) ⌝ }
+    ensures { λ r. ⌜ (T r ↔ GoodSpan p phase (now (table .entry)) s) ⌝ }
 {
     let kind = pages::kind_entry(table, s);
     let count = pages::page_count(table, s);
@@ -197,8 +196,8 @@ fn span_ok(p: usize, table: &[u32], phase: u64, s: usize) -> bool
 // How many pages there are to pass at page g, where no span is under way: one free page, or a whole
 // span. 0 is a fault.
 fn passed(p: usize, table: &[u32], phase: u64, g: usize) -> usize
-    requires { ⌜ (length (now table) ≡ entryNumbers * p) × (p ≤ maxPages) × (g < p) ⌝ }
-    ensures { λ r. ⌜ Step p phase (now (table .entry)) g r ⌝ }
+    requires { ⌜ PageTable p (now table) × (p ≤ maxPages) × (g < p) ⌝ }
+    ensures { λ r. ⌜ PassedPages p phase (now (table .entry)) g r ⌝ }
 {
     let owner = pages::owner(table, g);
     let count = pages::page_count(table, g);
@@ -222,8 +221,8 @@ fn passed(p: usize, table: &[u32], phase: u64, g: usize) -> usize
 
 // The page table of p pages is as it should be in this phase.
 pub fn pages_ok(p: usize, table: &[u32], phase: u64) -> bool
-    requires { ⌜ (length (now table) ≡ entryNumbers * p) × (p ≤ maxPages) ⌝ }
-    ensures { λ r. ⌜ (T r ↔ Pages p phase (now (table .entry))) ⌝ }
+    requires { ⌜ PageTable p (now table) × (p ≤ maxPages) ⌝ }
+    ensures { λ r. ⌜ (T r ↔ GoodPages p phase (now (table .entry))) ⌝ }
 {
     let mut g = 0;
     while g < p {

@@ -21,7 +21,7 @@ use Rattle.model.specs.Facts.{IsSpan, Reference, bit, keptAt}
 use Rattle.model.proofs.Spans.{at-home, round, whole}
 use Rattle.model.proofs.Named.{kept-allocated}
 use Rattle.bitmap.proofs.Bits.{trailing-first}
-use Rattle.audit_words.specs.Contents.{Filled, Block, Blocks, SpanContents}
+use Rattle.audit_words.specs.Contents.{Filled, BlockContents, BlocksContents, SpanContents}
 
 -- the lowest bit of a word that is not 0
 module _ (left : ℕ) (fits : left < 2 ^ 64) (some : left ≢ 0) where
@@ -58,16 +58,16 @@ module _ (left : ℕ) (fits : left < 2 ^ 64) (some : left ≢ 0) where
           go false e = first .before k (omega (arith, eqb-false (trailingZeros 64 left) k e))
 
 -- the bits of `pointers` that are not left were taken, and their words hold references
-pub record Taken (p : ℕ) (a t b : List ℕ) (at pointers left : ℕ) : Type 0 where
+pub record BitsTaken (p : ℕ) (a t b : List ℕ) (at pointers left : ℕ) : Type 0 where
   pub among : (j : ℕ) → j < 64 → T (eqb (bitOf left j) 1) → T (eqb (bitOf pointers j) 1)
   pub done : (j : ℕ) → j < 64 → T (eqb (bitOf pointers j) 1) → T (eqb (bitOf left j) 1) ⊎ Reference p t b (getD a (64 * at + j) 0)
 
 module _ (p : ℕ) (a t b : List ℕ) (at pointers : ℕ) where
-  pub taken-none : Taken p a t b at pointers pointers
+  pub taken-none : BitsTaken p a t b at pointers pointers
   taken-none = record { among = λ j l x. x; done = λ j l x. inl x }
 
-  pub taken-one : (left : ℕ) (fits : left < 2 ^ 64) (some : left ≢ 0) → Taken p a t b at pointers left →
-      Reference p t b (getD a (64 * at + trailingZeros 64 left) 0) → Taken p a t b at pointers (withBitOf (trailingZeros 64 left) false left)
+  pub taken-one : (left : ℕ) (fits : left < 2 ^ 64) (some : left ≢ 0) → BitsTaken p a t b at pointers left →
+      Reference p t b (getD a (64 * at + trailingZeros 64 left) 0) → BitsTaken p a t b at pointers (withBitOf (trailingZeros 64 left) false left)
   taken-one left fits some H r = record { among = λ j l x. H .among j l (back j (eqb z j) (rw (bits j l) at x)); done = λ j l x. on j l (H .done j l x) }
     where
       z : ℕ
@@ -89,7 +89,7 @@ module _ (p : ℕ) (a t b : List ℕ) (at pointers : ℕ) where
           go true e = inr (rw (eqb-true z j e) at r)
           go false e = inl x
 
-  pub taken-all : Taken p a t b at pointers 0 → Block p a t b at pointers
+  pub taken-all : BitsTaken p a t b at pointers 0 → BlockContents p a t b at pointers
   taken-all H j l x = go (H .done j l x)
     where
       go : T (eqb (bitOf 0 j) 1) ⊎ Reference p t b (getD a (64 * at + j) 0) → Reference p t b (getD a (64 * at + j) 0)
@@ -105,7 +105,7 @@ block-bit p b at j h l =
     bit-in (pageWords * p) pointer b (64 * at + j) (omega arith) ∙ rw (d, m)
 
 module _ (p : ℕ) (a t b : List ℕ) where
-  pub blocks-more : (from k : ℕ) → k < pageBlocks * p → Blocks p a t b from k → Block p a t b k (getD b (3 * (pageBlocks * p) + k) 0) → Blocks p a t b from (k + 1)
+  pub blocks-more : (from k : ℕ) → k < pageBlocks * p → BlocksContents p a t b from k → BlockContents p a t b k (getD b (3 * (pageBlocks * p) + k) 0) → BlocksContents p a t b from (k + 1)
   blocks-more from k h B C w l m x = go (ltb w (64 * k)) refl
     where
       go : (c : Bool) → ltb w (64 * k) ≡ c → Reference p t b (getD a w 0)
@@ -116,7 +116,7 @@ module _ (p : ℕ) (a t b : List ℕ) where
           let y : T (bit p pointer b (64 * k + (w - 64 * k))) = rw z x in
           rw z at (C (w - 64 * k) (omega arith) (rw (block-bit p b k (w - 64 * k) h (omega arith)) at y))
 
-  pub blocks-block : (from to k : ℕ) → from ≤ k → k < to → to ≤ pageBlocks * p → Blocks p a t b from to → Block p a t b k (getD b (3 * (pageBlocks * p) + k) 0)
+  pub blocks-block : (from to k : ℕ) → from ≤ k → k < to → to ≤ pageBlocks * p → BlocksContents p a t b from to → BlockContents p a t b k (getD b (3 * (pageBlocks * p) + k) 0)
   blocks-block from to k l m h B j n x = B (64 * k + j) (omega arith) (omega arith) (rw (block-bit p b k j (omega arith) n) x)
 
 module _ (p : ℕ) (a t b : List ℕ) (F : Filled p a t b) where
@@ -125,21 +125,21 @@ module _ (p : ℕ) (a t b : List ℕ) (F : Filled p a t b) where
   kept-swept w l x = rw (lt-leb unsweptFlag (kindEntry t (spanOf t w)) l) x
 
   -- .. and each pointer bit belongs to a kept element
-  pub swept-span : (s : ℕ) → IsSpan t s → kindEntry t s < unsweptFlag → Blocks p a t b (pageBlocks * s) (pageBlocks * s + pageBlocks * pageCount t s) ↔ SpanContents p a t b s
+  pub swept-span : (s : ℕ) → IsSpan t s → kindEntry t s < unsweptFlag → BlocksContents p a t b (pageBlocks * s) (pageBlocks * s + pageBlocks * pageCount t s) ↔ SpanContents p a t b s
   swept-span s i k = (there, back)
     where
-      there : Blocks p a t b (pageBlocks * s) (pageBlocks * s + pageBlocks * pageCount t s) → SpanContents p a t b s
+      there : BlocksContents p a t b (pageBlocks * s) (pageBlocks * s + pageBlocks * pageCount t s) → SpanContents p a t b s
       there B w l m x f n y =
-          let E = F .set .element w (kept-allocated (F .set) w x) in
-          let e = at-home (F .spanned .spans) s w i l m .1 in
-          B (w + f) (omega arith) (omega (arith, rw e at (whole (F .spanned .spans) w E .0))) y
+          let E = F .consistent .rules .element w (kept-allocated (F .consistent .rules) w x) in
+          let e = at-home (F .consistent .spans) s w i l m .1 in
+          B (w + f) (omega arith) (omega (arith, rw e at (whole (F .consistent .spans) w E .0))) y
 
-      back : SpanContents p a t b s → Blocks p a t b (pageBlocks * s) (pageBlocks * s + pageBlocks * pageCount t s)
+      back : SpanContents p a t b s → BlocksContents p a t b (pageBlocks * s) (pageBlocks * s + pageBlocks * pageCount t s)
       back g w l m y =
-          let f = F .set .pointers w y in
-          let e = at-home (F .spanned .spans) s w i (omega arith) (omega arith) .1 in
-          let r = round (F .spanned .spans) w (f .0 .used) in
+          let f = F .consistent .rules .pointers w y in
+          let e = at-home (F .consistent .spans) s w i (omega arith) (omega arith) .1 in
+          let r = round (F .consistent .spans) w (f .0 .used) in
           let low : pageWords * s ≤ elementOf t w = rw (← e) (r .0) in
-          let h = at-home (F .spanned .spans) s (elementOf t w) i low (omega (arith, r .1)) .1 in
+          let h = at-home (F .consistent .spans) s (elementOf t w) i low (omega (arith, r .1)) .1 in
           let z : elementOf t w + (w - elementOf t w) ≡ w = omega (arith, r .1) in
           rw z at (g (elementOf t w) low (omega (arith, r .1)) (kept-swept (elementOf t w) (rw h k) (f .2)) (w - elementOf t w) (omega (arith, r .1, r .2, ap (elementWords t) e)) (rw z y))

@@ -13,8 +13,9 @@ use Rattle.model.specs.Spans.{owner, kindEntry, isScan, spanOf}
 use Rattle.model.proofs.Tests.{eqb-iff}
 use Rattle.model.proofs.Bitmaps.{bit-in, bit-inside}
 use Rattle.model.specs.Facts.{Spans, IsSpan, Reference, bit, keptAt, unsweptAt}
+use Rattle.model.specs.Lent.{AllSwept}
 use Rattle.model.proofs.Facts.{swept-all}
-use Rattle.audit_words.specs.Contents.{Swept, keptFrom}
+use Rattle.audit_words.specs.Contents.{keptFrom}
 
 -- the span of a word of the arena; page 0 where there is none
 pub span-below : {p : ℕ} {t : List ℕ} → Spans p t → (w : ℕ) → w < pageWords * p → spanOf t w < p
@@ -33,7 +34,7 @@ kept-is p t b s w from e f l = rw (f, ← e) (go (leb unsweptFlag (kindEntry t (
     go false = let z : 0 + w ≡ w = omega arith in rw z (sym (bit-in (pageWords * p) allocated b w l))
 
 -- .. which is the allocated one where no span is unswept
-pub kept-told : {p : ℕ} {t : List ℕ} → Spans p t → Swept t → (b : List ℕ) (w : ℕ) → w < pageWords * p → bitAt b w ≡ keptAt p t b w
+pub kept-told : {p : ℕ} {t : List ℕ} → Spans p t → AllSwept t → (b : List ℕ) (w : ℕ) → w < pageWords * p → bitAt b w ≡ keptAt p t b w
 kept-told {p} {t} F Q b w l = rw (swept-all F Q (spanOf t w)) (sym (bit-in (pageWords * p) allocated b w l))
 
 -- where it stands: past all allocated bits, or not

@@ -6,55 +6,40 @@ use mathlib.Core.Path.{_≡_}
 use lib.Dec.{T}
 use lib.ListN.{length, getD}
 use Rattle.model.specs.Bounded.{_==_, _≤?_}
-use Rattle.model.specs.Memory.{maxPages, pageWords, wordBits, entryNumbers, bitmapWords, firstWord, firstState, unsweptFlag}
+use Rattle.model.specs.Memory.{pageWords, wordBits, firstWord, unsweptFlag}
 use Rattle.model.specs.Bitmaps.{pointer, bitOf}
 use Rattle.model.specs.Spans.{pageCount, kindEntry, elementOf, elementWords, spanOf}
-use Rattle.model.specs.Facts.{Spans, IsSpan, Element, Bits, Reference, bit, keptAt}
+use Rattle.model.specs.Facts.{IsSpan, Element, Reference, bit, keptAt}
+use Rattle.model.specs.Lent.{Consistent, AllSwept}
 
--- a page table of p pages whose spans are as they should be, and bitmaps of as many
-pub record Spanned (p : ℕ) (t b : List ℕ) : Type 0 where
-  pub high : p ≤ maxPages
-  pub table : length t ≡ entryNumbers * p
-  pub bits : length b ≡ bitmapWords * p
-  pub spans : Spans p t
-
--- .. with bits that are as they should be, and an arena
+-- a page table and bitmaps that are as they should be, and an arena of as many pages
 pub record Filled (p : ℕ) (a t b : List ℕ) : Type 0 where
-  pub spanned : Spanned p t b
+  pub consistent : Consistent p t b
   pub arena : length a ≡ pageWords * p
-  pub set : Bits p t b
 
--- .. in which no span is unswept
-abbrev pub Swept : List ℕ → Type 0
-Swept t = (s : ℕ) → IsSpan t s → kindEntry t s < unsweptFlag
-
--- a test that was told so
+-- what `swept` tells a test
 abbrev pub Told : Bool → List ℕ → Type 0
-Told swept t = swept ≡ true → Swept t
+Told swept t = swept ≡ true → AllSwept t
 
 -- the bit at which the part starts that says which elements of a span with this kind are kept: marked in an unswept one, else allocated
 abbrev pub keptFrom : ℕ → ℕ → ℕ
 keptFrom p kind = cond (unsweptFlag ≤? kind) (pageWords * p) 0
 
 -- the roots from `from` on and before `to` are references
-abbrev pub Range : ℕ → List ℕ → List ℕ → List ℕ → ℕ → ℕ → Type 0
-Range p t b r from to = (i : ℕ) → from ≤ i → i < to → Reference p t b (getD r i 0)
-
--- "every root ... is nil or the address of a kept element"
-abbrev pub Roots : ℕ → List ℕ → List ℕ → List ℕ → Type 0
-Roots p t b r = (i : ℕ) → i < firstState → Reference p t b (getD r i 0)
+abbrev pub RootRange : ℕ → List ℕ → List ℕ → List ℕ → ℕ → ℕ → Type 0
+RootRange p t b r from to = (i : ℕ) → from ≤ i → i < to → Reference p t b (getD r i 0)
 
 -- the pointer words among the n words from w on hold references
 abbrev pub Pointers : ℕ → List ℕ → List ℕ → List ℕ → ℕ → ℕ → Type 0
 Pointers p a t b w n = (f : ℕ) → f < n → T (bit p pointer b (w + f)) → Reference p t b (getD a (w + f) 0)
 
 -- the words of block `at`, 64 words of the arena, whose bit is on in `pointers` hold references
-abbrev pub Block : ℕ → List ℕ → List ℕ → List ℕ → ℕ → ℕ → Type 0
-Block p a t b at pointers = (j : ℕ) → j < wordBits → T (bitOf pointers j == 1) → Reference p t b (getD a (wordBits * at + j) 0)
+abbrev pub BlockContents : ℕ → List ℕ → List ℕ → List ℕ → ℕ → ℕ → Type 0
+BlockContents p a t b at pointers = (j : ℕ) → j < wordBits → T (bitOf pointers j == 1) → Reference p t b (getD a (wordBits * at + j) 0)
 
 -- the pointer words of blocks `from` to `to` - 1 hold references
-abbrev pub Blocks : ℕ → List ℕ → List ℕ → List ℕ → ℕ → ℕ → Type 0
-Blocks p a t b from to = (w : ℕ) → wordBits * from ≤ w → w < wordBits * to → T (bit p pointer b w) → Reference p t b (getD a w 0)
+abbrev pub BlocksContents : ℕ → List ℕ → List ℕ → List ℕ → ℕ → ℕ → Type 0
+BlocksContents p a t b from to = (w : ℕ) → wordBits * from ≤ w → w < wordBits * to → T (bit p pointer b w) → Reference p t b (getD a w 0)
 
 -- so do those of the kept elements of the span at page s
 abbrev pub SpanContents : ℕ → List ℕ → List ℕ → List ℕ → ℕ → Type 0
@@ -66,7 +51,7 @@ abbrev pub Contents : ℕ → List ℕ → List ℕ → List ℕ → Type 0
 Contents p a t b = (w : ℕ) → T (bit p pointer b w) → T (keptAt p t b (elementOf t w)) → Reference p t b (getD a w 0)
 
 -- an element of n words starts at word w
-pub record At (p : ℕ) (t : List ℕ) (w n : ℕ) : Type 0 where
+pub record ElementAt (p : ℕ) (t : List ℕ) (w n : ℕ) : Type 0 where
   pub element : Element t w
   pub size : n ≡ elementWords t (spanOf t w)
   pub inside : w + n ≤ pageWords * p
@@ -81,6 +66,6 @@ pub record Searched (p : ℕ) (t : List ℕ) (s n from end : ℕ) : Type 0 where
   pub inside : s + pageCount t s ≤ p
 
 -- those whose bit stands below `at` have references in their pointer words
-abbrev pub Below : ℕ → List ℕ → List ℕ → List ℕ → ℕ → ℕ → ℕ → ℕ → ℕ → Type 0
-Below p a t b s n from end at =
+abbrev pub ContentsBelow : ℕ → List ℕ → List ℕ → List ℕ → ℕ → ℕ → ℕ → ℕ → ℕ → Type 0
+ContentsBelow p a t b s n from end at =
     (w : ℕ) → firstWord s ≤ w → from + w < at → from + w < end → T (keptAt p t b w) → Pointers p a t b w n

@@ -5,14 +5,14 @@
 // the sweep phase no span is unswept, and a reference is tested by one bit, without the page table.
 ghost use mathlib.Core.Path.{_≡_};
 ghost use mathlib.Core.Logic.{_↔_};
-ghost use Prim.Native.Nat.{_+_, _*_, _<_, _≤_};
+ghost use Prim.Native.Nat.{_*_, _<_, _≤_};
 ghost use lib.Dec.{T};
-ghost use lib.ListN.{length};
-ghost use Rattle.model.specs.Memory.{maxPages, pageWords, entryNumbers, rootWords, firstGlobal, pageBlocks};
+ghost use Rattle.model.specs.Memory.{maxPages, pageWords, rootWords, firstGlobal, pageBlocks};
 ghost use Rattle.model.specs.Spans.{isScan};
-ghost use Rattle.model.specs.Facts.{IsSpan};
-ghost use Rattle.model.specs.Facts.{Reference, States, keptAt};
-ghost use Rattle.audit_words.specs.Contents.{Spanned, Filled, Told, At, Searched, Range, Roots, Pointers, Block, Blocks, SpanContents, Contents, keptFrom};
+ghost use Rattle.model.specs.Facts.{IsSpan, Reference, States, keptAt};
+ghost use Rattle.model.specs.Lent.{Roots, HasEntry, Mapped, RootReferences};
+ghost use Rattle.audit_words.specs.Contents.{Filled, Told, ElementAt, Searched, RootRange, keptFrom};
+ghost use Rattle.audit_words.specs.Contents.{Pointers, BlockContents, BlocksContents, SpanContents, Contents};
 use units::Address;
 use units::CLOSED;
 use units::FIRST_GLOBAL;
@@ -40,7 +40,7 @@ fn kept_from(p: usize, kind: usize) -> usize
 
 // Word w of the arena starts a kept element. `swept` says that no span is unswept.
 fn kept(p: usize, table: &[u32], bits: &[u64], swept: bool, w: usize) -> bool
-    requires { ⌜ Spanned p (now table) (now bits) × Told swept (now table) × (w < pageWords * p) ⌝ }
+    requires { ⌜ Mapped p (now table) (now bits) × Told swept (now table) × (w < pageWords * p) ⌝ }
     ensures { λ r. ⌜ r ≡ keptAt p (now (table .entry)) (now (bits .entry)) w ⌝ }
 {
     if swept {
@@ -53,7 +53,7 @@ fn kept(p: usize, table: &[u32], bits: &[u64], swept: bool, w: usize) -> bool
 
 // The value is nil or the address of a kept element.
 pub fn is_reference(p: usize, table: &[u32], bits: &[u64], swept: bool, v: u64) -> bool
-    requires { ⌜ Spanned p (now table) (now bits) × Told swept (now table) ⌝ }
+    requires { ⌜ Mapped p (now table) (now bits) × Told swept (now table) ⌝ }
     ensures { λ r. ⌜ (T r ↔ Reference p (now (table .entry)) (now (bits .entry)) v) ⌝ }
 {
     if Address(v).is_nil() {
@@ -79,8 +79,8 @@ fn range_ok(
     from: usize,
     to: usize,
 ) -> bool
-    requires { ⌜ Spanned p (now table) (now bits) × Told swept (now table) × (length (now roots) ≡ rootWords) × (to ≤ rootWords) ⌝ }
-    ensures { λ r. ⌜ (T r ↔ Range p (now (table .entry)) (now (bits .entry)) (now (roots .entry)) from to) ⌝ }
+    requires { ⌜ Mapped p (now table) (now bits) × Told swept (now table) × Roots (now roots) × (to ≤ rootWords) ⌝ }
+    ensures { λ r. ⌜ (T r ↔ RootRange p (now (table .entry)) (now (bits .entry)) (now (roots .entry)) from to) ⌝ }
 {
     let mut i = from;
     while i < to {
@@ -95,8 +95,8 @@ fn range_ok(
 
 // So are the slots of every stack. Those of a closed one are nil.
 fn slots_ok(p: usize, table: &[u32], bits: &[u64], roots: &[u64], swept: bool) -> bool
-    requires { ⌜ Spanned p (now table) (now bits) × Told swept (now table) × (length (now roots) ≡ rootWords) × States (now roots) ⌝ }
-    ensures { λ r. ⌜ (T r ↔ Range p (now (table .entry)) (now (bits .entry)) (now (roots .entry)) 0 firstGlobal) ⌝ }
+    requires { ⌜ Mapped p (now table) (now bits) × Told swept (now table) × Roots (now roots) × States (now roots) ⌝ }
+    ensures { λ r. ⌜ (T r ↔ RootRange p (now (table .entry)) (now (bits .entry)) (now (roots .entry)) 0 firstGlobal) ⌝ }
 {
     let mut s = 0;
     while s < STACKS {
@@ -114,8 +114,8 @@ fn slots_ok(p: usize, table: &[u32], bits: &[u64], roots: &[u64], swept: bool) -
 
 // So is every slot and every global.
 pub fn roots_ok(p: usize, table: &[u32], bits: &[u64], roots: &[u64], swept: bool) -> bool
-    requires { ⌜ Spanned p (now table) (now bits) × Told swept (now table) × (length (now roots) ≡ rootWords) × States (now roots) ⌝ }
-    ensures { λ r. ⌜ (T r ↔ Roots p (now (table .entry)) (now (bits .entry)) (now (roots .entry))) ⌝ }
+    requires { ⌜ Mapped p (now table) (now bits) × Told swept (now table) × Roots (now roots) × States (now roots) ⌝ }
+    ensures { λ r. ⌜ (T r ↔ RootReferences p (now (table .entry)) (now (bits .entry)) (now (roots .entry))) ⌝ }
 {
     if !slots_ok(p, table, bits, roots, swept) {
         return false;
@@ -135,7 +135,8 @@ fn block_ok(
     pointers: u64,
 ) -> bool
     requires { ⌜ Filled p (now arena) (now table) (now bits) × Told swept (now table) × (at < pageBlocks * p) ⌝ }
-    ensures { λ r. ⌜ (T r ↔ Block p (now (arena .entry)) (now (table .entry)) (now (bits .entry)) at pointers) ⌝ }
+    ensures { λ r. ⌜
+        (T r ↔ BlockContents p (now (arena .entry)) (now (table .entry)) (now (bits .entry)) at pointers) ⌝ }
 {
     let first = WORD_BITS * at;
     let mut left = pointers;
@@ -160,8 +161,9 @@ fn blocks_ok(
     from: usize,
     to: usize,
 ) -> bool
-    requires { ⌜ Filled p (now arena) (now table) (now bits) × Told swept (now table) × (from ≤ to) × (to ≤ pageBlocks * p) ⌝ }
-    ensures { λ r. ⌜ (T r ↔ Blocks p (now (arena .entry)) (now (table .entry)) (now (bits .entry)) from to) ⌝ }
+    requires { ⌜
+        Filled p (now arena) (now table) (now bits) × Told swept (now table) × (from ≤ to) × (to ≤ pageBlocks * p) ⌝ }
+    ensures { λ r. ⌜ (T r ↔ BlocksContents p (now (arena .entry)) (now (table .entry)) (now (bits .entry)) from to) ⌝ }
 {
     let part = PARTS_BEFORE * (PAGE_BLOCKS * p);
     let mut k = from;
@@ -179,7 +181,7 @@ fn blocks_ok(
 // The pointer words of the element of n words at word w hold references. Behind the first word that
 // is no pointer there is none.
 fn pointers_ok(p: usize, arena: &[u64], table: &[u32], bits: &[u64], w: usize, n: usize) -> bool
-    requires { ⌜ Filled p (now arena) (now table) (now bits) × At p (now table) w n ⌝ }
+    requires { ⌜ Filled p (now arena) (now table) (now bits) × ElementAt p (now table) w n ⌝ }
     ensures { λ r. ⌜ (T r ↔ Pointers p (now (arena .entry)) (now (table .entry)) (now (bits .entry)) w n) ⌝ }
 {
     let first = PARTS_BEFORE * (PAGE_WORDS * p) + w;
@@ -228,7 +230,8 @@ fn elements_ok(
 
 // The same, for the span as its entry describes it.
 fn span_ok(p: usize, arena: &[u64], table: &[u32], bits: &[u64], swept: bool, s: usize) -> bool
-    requires { ⌜ Filled p (now arena) (now table) (now bits) × Told swept (now table) × (s < p) × IsSpan (now table) s ⌝ }
+    requires { ⌜
+        Filled p (now arena) (now table) (now bits) × Told swept (now table) × (s < p) × IsSpan (now table) s ⌝ }
     ensures { λ r. ⌜ (T r ↔ SpanContents p (now (arena .entry)) (now (table .entry)) (now (bits .entry)) s) ⌝ }
 {
     let kind = pages::kind_entry(table, s);
@@ -253,7 +256,7 @@ fn span_ok(p: usize, arena: &[u64], table: &[u32], bits: &[u64], swept: bool, s:
 
 // A scan span starts at page s.
 fn scans(table: &[u32], s: usize) -> bool
-    requires { ⌜ entryNumbers * s + 2 < length (now table) ⌝ }
+    requires { ⌜ HasEntry (now table) s ⌝ }
     ensures { λ r. ⌜ (T r ↔ (IsSpan (now (table .entry)) s × T (isScan (now (table .entry)) s))) ⌝ }
 {
     if pages::owner(table, s) != s + 1 {

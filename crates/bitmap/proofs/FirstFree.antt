@@ -15,7 +15,7 @@ use Rattle.model.specs.Bounded.{firstBelow}
 use Rattle.model.proofs.Bounded.{first-is}
 use Rattle.bitmap.specs.Starts.{Starts}
 use Rattle.model.proofs.Bitmaps.{bit-shifted}
-use Rattle.bitmap.proofs.Scan.{Word, None, Passed, word-at, word-not, word-and, scan, whole-word, both}
+use Rattle.bitmap.proofs.Scan.{WordOf, None, Passed, word-at, word-not, word-and, scan-word, whole-word, both}
 
 -- whole elements further on the offset is the same
 pub same-offset : (size off n : ℕ) → off < size → (off + n * size) % size ≡ off
@@ -82,9 +82,9 @@ none-before ws first size i l = rw (lt-leb first i (omega arith)) (and-false (no
 pub scan-free : (ws : List ℕ) {first size at off starts : ℕ} → Starts size starts → Reached first size at off → getD ws at 0 < 2 ^ 64 →
     None (freeStart ws first size) (at * 64) → Passed (freeStart ws first size) at (trailingZeros 64 (bitAnd ((2 ^ 64 - 1) - getD ws at 0) (starts * 2 ^ off % 2 ^ 64)))
 scan-free ws {first} {size} {at} {off} {starts} s p h n =
-    scan (freeStart ws first size) at _ (word-and at (λ b. not (bitAt ws b)) (starting first size) _ _ (word-not at (bitAt ws) _ h (word-at ws at)) masked) n
+    scan-word (freeStart ws first size) at _ (word-and at (λ b. not (bitAt ws b)) (starting first size) _ _ (word-not at (bitAt ws) _ h (word-at ws at)) masked) n
   where
-    masked : Word at (starting first size) (starts * 2 ^ off % 2 ^ 64)
+    masked : WordOf at (starting first size) (starts * 2 ^ off % 2 ^ 64)
     masked j l =
         let e : at * 64 + j - first ≡ (at * 64 - first) + j = omega (arith, p .begun) in
         rw (bit-shifted starts 64 off j l, le-leb first (at * 64 + j) (omega (arith, p .begun)), e, starts-from size (at * 64 - first) off j (p .near) (p .start))

@@ -16,10 +16,10 @@ use Rattle.model.proofs.Bounded.{First}
 use Rattle.bitmap.proofs.Bits.{trailing-first}
 
 -- word number `at` of the bits t is w
-abbrev pub Word : ℕ → (ℕ → Bool) → ℕ → Type 0
-Word at t w = (j : ℕ) → j < 64 → bitOf w j ≡ cond (t (at * 64 + j)) 1 0
+abbrev pub WordOf : ℕ → (ℕ → Bool) → ℕ → Type 0
+WordOf at t w = (j : ℕ) → j < 64 → bitOf w j ≡ cond (t (at * 64 + j)) 1 0
 
-pub word-at : (ws : List ℕ) (at : ℕ) → Word at (bitAt ws) (getD ws at 0)
+pub word-at : (ws : List ℕ) (at : ℕ) → WordOf at (bitAt ws) (getD ws at 0)
 unfolding bitAt
 word-at ws at j h =
     let d : (at * 64 + j) / 64 ≡ at = omega arith in
@@ -31,14 +31,14 @@ word-at ws at j h =
     go (suc zero) l = refl
     go (suc (suc b)) l = absurd (omega arith)
 
-pub word-not : (at : ℕ) (t : ℕ → Bool) (w : ℕ) → w < 2 ^ 64 → Word at t w → Word at (λ b. not (t b)) ((2 ^ 64 - 1) - w)
+pub word-not : (at : ℕ) (t : ℕ → Bool) (w : ℕ) → w < 2 ^ 64 → WordOf at t w → WordOf at (λ b. not (t b)) ((2 ^ 64 - 1) - w)
 word-not at t w h f j l = rw (bit-not 64 w j h l, f j l) (go (t (at * 64 + j)))
   where
     go : (b : Bool) → 1 - cond b 1 0 ≡ cond (not b) 1 0
     go true = refl
     go false = refl
 
-pub word-and : (at : ℕ) (s t : ℕ → Bool) (v w : ℕ) → Word at s v → Word at t w → Word at (λ b. s b && t b) (bitAnd v w)
+pub word-and : (at : ℕ) (s t : ℕ → Bool) (v w : ℕ) → WordOf at s v → WordOf at t w → WordOf at (λ b. s b && t b) (bitAnd v w)
 word-and at s t v w f g j l = rw (bit-and, f j l, g j l) (go (s (at * 64 + j)) (t (at * 64 + j)))
   where
     go : (b c : Bool) → min (cond b 1 0) (cond c 1 0) ≡ cond (b && c) 1 0
@@ -57,8 +57,8 @@ pub record Passed (t : ℕ → Bool) (at z : ℕ) : Type 0 where
   pub none : None t (at * 64 + z)
   pub holds : z < 64 → t (at * 64 + z) ≡ true
 
-pub scan : (t : ℕ → Bool) (at w : ℕ) → Word at t w → None t (at * 64) → Passed t at (trailingZeros 64 w)
-scan t at w f n = record { cap = p .within; none = λ i l. go i l (ltb i (at * 64)) refl; holds = λ l. sym (same _ l) ∙ p .holds l }
+pub scan-word : (t : ℕ → Bool) (at w : ℕ) → WordOf at t w → None t (at * 64) → Passed t at (trailingZeros 64 w)
+scan-word t at w f n = record { cap = p .within; none = λ i l. go i l (ltb i (at * 64)) refl; holds = λ l. sym (same _ l) ∙ p .holds l }
   where
     p : First 64 (λ k. eqb (bitOf w k) 1) (trailingZeros 64 w)
     p = trailing-first 64 w

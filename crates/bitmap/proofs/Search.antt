@@ -15,12 +15,12 @@ use Rattle.model.specs.Bitmaps.{bitOf, bitAt}
 use Rattle.model.specs.Bounded.{firstBelow}
 use Rattle.model.proofs.Bounded.{first-is}
 use Rattle.model.proofs.Bitmaps.{bit-shifted, bit-all}
-use Rattle.bitmap.proofs.Scan.{Word, None, Passed, word-at, word-and, scan, both}
+use Rattle.bitmap.proofs.Scan.{WordOf, None, Passed, word-at, word-and, scan-word, both}
 
 -- the mask has the bits from `from` on in word number `at`, which is the word of `from` or one after it
 pub record Masked (from at mask : ℕ) : Type 0 where
   pub begun : from / 64 ≤ at
-  pub word : Word at (leb from) mask
+  pub word : WordOf at (leb from) mask
 
 pub masked-first : (from : ℕ) → Masked from (from / 64) ((2 ^ 64 - 1) * 2 ^ (from % 64) % 2 ^ 64)
 masked-first from = record { begun = omega arith; word = λ j l. rw (bit-shifted (2 ^ 64 - 1) 64 (from % 64) j l) (go j l (leb (from % 64) j) refl) }
@@ -41,9 +41,9 @@ pub none-passed : (t : ℕ → Bool) (from : ℕ) → None (passFrom t from) (fr
 none-passed t from i l = rw (lt-leb from i (omega arith)) (and-false (t i))
 
 -- one word w of the bits that pass, masked
-pub scan-from : (t : ℕ → Bool) (w : ℕ) {from at mask : ℕ} → Word at t w → Masked from at mask → None (passFrom t from) (at * 64) →
+pub scan-from : (t : ℕ → Bool) (w : ℕ) {from at mask : ℕ} → WordOf at t w → Masked from at mask → None (passFrom t from) (at * 64) →
     Passed (passFrom t from) at (trailingZeros 64 (bitAnd w mask))
-scan-from t w {from} {at} {mask} f m n = scan (passFrom t from) at _ (word-and at t (leb from) w mask f (m .word)) n
+scan-from t w {from} {at} {mask} f m n = scan-word (passFrom t from) at _ (word-and at t (leb from) w mask f (m .word)) n
 
 -- .. where the set bits pass
 pub scan-set : (ws : List ℕ) {from at mask : ℕ} → Masked from at mask → None (passFrom (bitAt ws) from) (at * 64) →

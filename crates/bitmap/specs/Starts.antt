@@ -12,7 +12,7 @@ pub record Starts (size mask : ℕ) : Type 0 where
   pub bit : (j : ℕ) → j < 64 → bitOf mask j ≡ cond (eqb (j % size) 0) 1 0
 
 -- `count` elements from bit `first` on, the lowest of its word, lie within the words
-pub record Elements (ws : List ℕ) (first size count mask : ℕ) : Type 0 where
+pub record ElementRow (ws : List ℕ) (first size count mask : ℕ) : Type 0 where
   pub aligned : first % 64 ≡ 0
   pub some : 0 < size
   pub inside : first + count * size ≤ 64 * length ws

@@ -8,7 +8,7 @@ ghost use Prim.Native.Nat.{_+_, _-_, _*_, _/_, _%_, _<_, _≤_, min};
 ghost use lib.ListN.{length};
 ghost use Rattle.model.specs.Bounded.{firstBelow};
 ghost use Rattle.model.specs.Bitmaps.{bitAt, withBit};
-ghost use Rattle.bitmap.specs.Starts.{Elements};
+ghost use Rattle.bitmap.specs.Starts.{ElementRow};
 use units::ALL_BITS;
 
 // Bit `i`.
@@ -92,7 +92,7 @@ pub fn next_start(size: usize, rest: usize, off: usize) -> usize
 // and is free if that bit is clear; its other bits do not count. `starts` has the bits at which
 // elements start in a word whose lowest bit starts one. Words in which none starts are passed over.
 pub fn first_free(ws: &[u64], first: usize, size: usize, count: usize, starts: u64) -> usize
-    requires { ⌜ Elements (now ws) first size count starts ⌝ }
+    requires { ⌜ ElementRow (now ws) first size count starts ⌝ }
     ensures { λ r. ⌜ r ≡ firstBelow count (λ k. not (bitAt (now (ws .entry)) (first + k * size))) ⌝ }
 {
     let end = words_below(first + count * size);

@@ -3,7 +3,7 @@ use Prim.Native.Nat.{ℕ, zero, suc, _+_, _-_, _*_, _/_, _%_, _^_, _<_, _≤_}
 use mathlib.Core.Bool.{Bool, true, false}
 use mathlib.Core.List.{List}
 use mathlib.Core.Logic.{_⊎_, inl, inr}
-use mathlib.Core.Path.{_≡_, refl, sym, _∙_, ap}
+use mathlib.Core.Path.{_≡_, refl, _∙_, ap}
 use native.Mathlib.Nat.{le-div-iff-mul-le, div-lt-iff-lt-mul, eq-zero-or-pos, pow-suc}
 use native.Mathlib.Omega.{arith}
 use lib.Count.{leadingZeros, leading-top, leading-le, leading-of-zero}
@@ -13,7 +13,7 @@ use lib.Pow.{pow-pos, pow-mono}
 use borrow.Author.Tests.{ltb-true, ltb-false}
 use Rattle.model.specs.Bitmaps.{bitOf, bitAt}
 use Rattle.model.proofs.Bitmaps.{bit-none}
-use Rattle.bitsearch.specs.Last.{lastOf, lastBelow}
+use Rattle.bitsearch.specs.Last.{lastAmong, lastBelow}
 
 -- z bits of a word were passed from its top down, and the next one is set, unless the word is at its end
 pub record Above (w z : ℕ) : Type 0 where
@@ -75,12 +75,12 @@ module _ (ws : List ℕ) (at : ℕ) {z : ℕ} (a : Above (getD ws at 0) z) where
       rw (d, m, a .holds l)
 
 -- the highest that passes, and none where none does
-last-found : (k n : ℕ) (t : ℕ → Bool) (r : ℕ) → r < k → t r ≡ true → ((i : ℕ) → r < i → i < k → t i ≡ false) → lastOf k n t ≡ r
-unfolding lastOf
+last-found : (k n : ℕ) (t : ℕ → Bool) (r : ℕ) → r < k → t r ≡ true → ((i : ℕ) → r < i → i < k → t i ≡ false) → lastAmong k n t ≡ r
+unfolding lastAmong
 last-found zero n t r l h f = absurd (omega arith)
 last-found (suc k) n t r l h f = go (ltb r k) refl (λ m. last-found k n t r m h (λ i p q. f i p (omega arith)))
   where
-    go : (b : Bool) → ltb r k ≡ b → (r < k → lastOf k n t ≡ r) → lastOf (suc k) n t ≡ r
+    go : (b : Bool) → ltb r k ≡ b → (r < k → lastAmong k n t ≡ r) → lastAmong (suc k) n t ≡ r
     go true e below =
         let m : r < k = ltb-true r k e in
         rw (f k m (omega arith)) (below m)
@@ -88,8 +88,8 @@ last-found (suc k) n t r l h f = go (ltb r k) refl (λ m. last-found k n t r m h
         let m : r ≡ k = omega (arith, ltb-false r k e) in
         rw (← m, h)
 
-last-none : (k n : ℕ) (t : ℕ → Bool) → ((i : ℕ) → i < k → t i ≡ false) → lastOf k n t ≡ n
-unfolding lastOf
+last-none : (k n : ℕ) (t : ℕ → Bool) → ((i : ℕ) → i < k → t i ≡ false) → lastAmong k n t ≡ n
+unfolding lastAmong
 last-none zero n t f = refl
 last-none (suc k) n t f = rw (f k (omega arith)) (last-none k n t (λ i l. f i (omega arith)))
 

@@ -10,16 +10,16 @@ use lib.ListN.{getD}
 use Rattle.model.specs.Memory.{pageWords, pageBlocks}
 use Rattle.model.specs.Bitmaps.{bitAt, allocated, marked}
 use Rattle.model.proofs.Bitmaps.{bit-in}
-use Rattle.bitmap.proofs.Scan.{Word, None, Passed, word-at, word-and, word-not}
+use Rattle.bitmap.proofs.Scan.{WordOf, None, Passed, word-at, word-and, word-not}
 use Rattle.bitmap.proofs.Search.{Masked, passFrom, scan-from}
 use Rattle.bitsearch.specs.Freed.{isFreed}
 
 -- the word of freed bits, of bitmaps of p pages
 module _ (p : ℕ) (b : List ℕ) (fit : (x : ℕ) → getD b x 0 < 2 ^ 64) where
-  freed-word : (at : ℕ) → at < pageBlocks * p → Word at (isFreed p b) (bitAnd (getD b at 0) ((2 ^ 64 - 1) - getD b (pageBlocks * p + at) 0))
+  freed-word : (at : ℕ) → at < pageBlocks * p → WordOf at (isFreed p b) (bitAnd (getD b at 0) ((2 ^ 64 - 1) - getD b (pageBlocks * p + at) 0))
   freed-word at h j l =
       let i = at * 64 + j in
-      let m : Word at (λ i. bitAt b (pageWords * p + i)) (getD b (pageBlocks * p + at) 0) =
+      let m : WordOf at (λ i. bitAt b (pageWords * p + i)) (getD b (pageBlocks * p + at) 0) =
       λ k q. word-at b (pageBlocks * p + at) k q ∙ ap (λ x. cond (bitAt b x) 1 0) (omega arith) in
       rw (bit-in (pageWords * p) allocated b i (omega arith), bit-in (pageWords * p) marked b i (omega arith))
       (word-and at (bitAt b) (λ i. not (bitAt b (pageWords * p + i))) _ _ (word-at b at) (word-not at (λ i. bitAt b (pageWords * p + i)) _ (fit (pageBlocks * p + at)) m) j l)

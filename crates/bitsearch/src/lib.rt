@@ -8,6 +8,7 @@ ghost use lib.ListN.{length};
 ghost use Rattle.model.specs.Bounded.{firstBelow};
 ghost use Rattle.model.specs.Memory.{pageWords, wordBits, maxPages, bitmapWords};
 ghost use Rattle.model.specs.Bitmaps.{bitAt};
+ghost use Rattle.model.specs.Lent.{Bitmaps};
 ghost use Rattle.bitsearch.specs.Freed.{isFreed};
 
 pub mod downward; // downward.rt: the search from the top down
@@ -19,7 +20,7 @@ use units::WORD_BITS;
 // The lowest element start from word `from` on and below `to`, the end of a span, that is allocated
 // and not marked, or `to`.
 pub fn next_freed(p: usize, bits: &[u64], from: usize, to: usize) -> usize
-    requires { ⌜ (p ≤ maxPages) × (length (now bits) ≡ bitmapWords * p) × (from ≤ to) × (to ≤ pageWords * p) × (to % wordBits ≡ 0) ⌝ }
+    requires { ⌜ Bitmaps p (now bits) × (from ≤ to) × (to ≤ pageWords * p) × (to % wordBits ≡ 0) ⌝ }
     ensures { λ r. ⌜ r ≡ from + firstBelow (to - from) (λ k. isFreed p (now (bits .entry)) (from + k)) ⌝ }
 {
     let marks = PAGE_BLOCKS * p;

@@ -8,10 +8,9 @@ use native.Mathlib.Omega.{arith}
 use lib.Dec.{eqb, ltb}
 use lib.ListN.{getD, set}
 use borrow.Author.Tests.{ne-eqb}
-use Rattle.model.specs.Classes.{kinds}
 use Rattle.model.specs.Bounded.{someBelow}
-use Rattle.model.specs.Memory.{lent, stackCount, firstState, globalsStateAt, phaseAt, pageWords}
-use Rattle.model.specs.Answers.{Meets, _given_, _orElse_}
+use Rattle.model.specs.Memory.{lent, stackCount, firstState, globalsStateAt, phaseAt, mark, sweep, grayState, pageWords}
+use Rattle.model.specs.Answers.{Meets, wrongPhase, unfinished, _given_, _orElse_}
 use Rattle.model.specs.Spans.{putPages}
 use Rattle.model.specs.Cycle.{firstGray, finishRefusal, finish, unsweptPage}
 use Rattle.model.specs.declared.Answer.the-variants.{Refused, Done}
@@ -31,28 +30,28 @@ some-no n t f = ap not (all-from n (λ j. not (t j)) (λ k l. ap not (f k l)))
 
 -- stack s is gray
 abbrev pub grayStack : List ℕ → ℕ → Bool
-grayStack r s = eqb (getD r (firstState + s) 0) 2
+grayStack r s = eqb (getD r (firstState + s) 0) grayState
 
 module _ (p : ℕ) (a t b r : List ℕ) where
   -- the refusal, by its tests
-  pub refusal-is : (x y z : Bool) → getD r phaseAt 0 ≡ 1 → someBelow stackCount (grayStack r) ≡ x → eqb (getD r globalsStateAt 0) 2 ≡ y → ltb (firstGray (lent p a t b r)) (pageWords * p) ≡ z →
-      cond (x || y || z) 10 0 ≡ finishRefusal (lent p a t b r)
+  pub refusal-is : (x y z : Bool) → getD r phaseAt 0 ≡ mark → someBelow stackCount (grayStack r) ≡ x → eqb (getD r globalsStateAt 0) grayState ≡ y → ltb (firstGray (lent p a t b r)) (pageWords * p) ≡ z →
+      cond (x || y || z) unfinished 0 ≡ finishRefusal (lent p a t b r)
   unfolding finishRefusal _given_ _orElse_
   refusal-is x y z e f g h = rw (e, f, g, h)
 
-  pub wrong-phase : getD r phaseAt 0 ≢ 1 → 2 ≡ finishRefusal (lent p a t b r)
+  pub wrong-phase : getD r phaseAt 0 ≢ mark → wrongPhase ≡ finishRefusal (lent p a t b r)
   unfolding finishRefusal _given_ _orElse_
-  wrong-phase d = rw (ne-eqb (getD r phaseAt 0) 1 d)
+  wrong-phase d = rw (ne-eqb (getD r phaseAt 0) mark d)
 
   module _ {n : ℕ} (m : n ≡ finishRefusal (lent p a t b r)) where
     pub finish-refused : n ≢ 0 → Meets (finish (lent p a t b r)) (Refused n) a t b r
     unfolding finish
     finish-refused d = refused _ (lent p a t b r) _ _ m d
 
-    pub finished : n ≡ 0 → {t' : List ℕ} → t' ≡ putPages 0 p (unsweptPage t) t → Meets (finish (lent p a t b r)) Done a t' b (set r phaseAt 2)
+    pub finished : n ≡ 0 → {t' : List ℕ} → t' ≡ putPages 0 p (unsweptPage t) t → Meets (finish (lent p a t b r)) Done a t' b (set r phaseAt sweep)
     unfolding finish
     finished e f = rw f (accepted _ (lent p a t b r) _ _ (sym m ∙ e))
 
 -- the kinds of audited spans have room for the flag
 pub flaggable : {p : ℕ} {a t b r : List ℕ} → Audited (lent p a t b r) → Flaggable p t
-flaggable A = record { long = A .sized .table; room = λ s l e. omega (arith, A .spans .entry s e .flag) }
+flaggable A = record { table = A .sized .table; room = λ s l e. omega (arith, A .spans .entry s e .flag) }

@@ -9,10 +9,10 @@ use lib.Dec.{T}
 use lib.ListN.{length, getD}
 use borrow.Author.Tests.{ne-eqb, le-ltb, lt-ltb}
 use Rattle.model.specs.Bounded.{firstBelow}
-use Rattle.model.specs.Memory.{Heap, lent, words, addressOf, phaseAt, pageWords, entryNumbers}
+use Rattle.model.specs.Memory.{Heap, lent, words, addressOf, phaseAt, mark, pageWords, pageOf}
 use Rattle.model.specs.Bitmaps.{bitAt, withBit, putBit, is, allocated, gray, pointer}
 use Rattle.model.specs.Spans.{elementWords, spanOf, pointerCount, kept}
-use Rattle.model.specs.Answers.{Meets, _given_}
+use Rattle.model.specs.Answers.{Meets, wrongPhase, _given_}
 use Rattle.model.specs.Cycle.{firstGray, scanRecord, markStep}
 use Rattle.model.specs.declared.Answer.the-variants.{Refused, Value}
 use Rattle.model.proofs.Tests.{is-true}
@@ -20,12 +20,14 @@ use Rattle.model.proofs.Bounded.{first-props, first-cong}
 use Rattle.model.proofs.Bitmaps.{bit-in}
 use Rattle.model.proofs.Outcomes.{meets}
 use Rattle.model.proofs.Spans.{whole}
-use Rattle.model.specs.Facts.{Audited}
+use Rattle.model.specs.Facts.{Audited, Element}
+use Rattle.model.specs.Lent.{HasEntry, Mapped}
 use Rattle.model.proofs.Facts.{not-unswept, pointer-word}
-use Rattle.shading.specs.Needs.{Each, ShadesAll}
-use Rattle.shading.proofs.References.{reference-named, audited-tables}
-use Rattle.spans.specs.Needs.{Entry}
-use Rattle.cycle.specs.Needs.{Record, Gray}
+use Rattle.model.proofs.Lent.{audited-mapped}
+use Rattle.shading.specs.Needs.{ShadableSlice, ShadesAll}
+use Rattle.shading.proofs.References.{reference-named}
+use Rattle.spans.specs.Needs.{ClassEntry}
+use Rattle.cycle.specs.Needs.{Gray}
 
 -- the search over the gray part of the bitmaps
 pub gray-found : (p : ℕ) (b : List ℕ) {r : ℕ} →
@@ -39,18 +41,18 @@ gray-found p b {r} e a t roots =
 
 -- where the record at word w lies
 pub record Lies (p : ℕ) (t : List ℕ) (w : ℕ) : Type 0 where
-  pub page : entryNumbers * (w / pageWords) + 2 < length t
-  pub entry : Entry t (spanOf t w)
+  pub page : HasEntry t (pageOf w)
+  pub entry : ClassEntry t (spanOf t w)
   pub inside : w + elementWords t (spanOf t w) ≤ pageWords * p
 
-pub lies : {p : ℕ} {t b : List ℕ} {w : ℕ} → Record p t b w → Lies p t w
+pub lies : {p : ℕ} {t b : List ℕ} {w : ℕ} → Mapped p t b × Element t w → Lies p t w
 lies {p} {t} {b} {w} R =
-    let o = R .spans .whose (w / pageWords) (R .element .lies .used) in
-    let i = R .spans .inside (spanOf t w) (o .0) in
+    let o = R .0 .spans .whose (w / pageWords) (R .1 .lies .used) in
+    let i = R .0 .spans .inside (spanOf t w) (o .0) in
     record {
-      page = omega (arith, R .tables .table);
-      entry = record { long = omega (arith, R .tables .table); class = omega (arith, R .spans .entry (spanOf t w) (o .0) .kind) };
-      inside = whole (R .spans) w (R .element) .1;
+      page = omega (arith, R .0 .table);
+      entry = record { entry = omega (arith, R .0 .table); class = omega (arith, R .0 .spans .entry (spanOf t w) (o .0) .kind) };
+      inside = whole (R .0 .spans) w (R .1) .1;
     }
 
 -- the search for the end of the run of pointer bits
@@ -68,19 +70,19 @@ module _ {h : Heap} {w : ℕ} (G : Gray h w) where
   gray-allocated : T (is allocated h w)
   gray-allocated = let A = G .audited in A .bits .marks w (A .bits .grays w (is-true _ (G .grays)) .0)
 
-  pub gray-record : Record (h .pages) (h .table) (h .bits) w
-  gray-record = let A = G .audited in record { tables = audited-tables A; spans = A .spans; element = A .bits .element w gray-allocated }
+  pub gray-record : Mapped (h .pages) (h .table) (h .bits) × Element (h .table) w
+  gray-record = let A = G .audited in (audited-mapped A, A .bits .element w gray-allocated)
 
   gray-kept : T (kept h w)
   gray-kept = let A = G .audited in
       rw (not-unswept (A .spans) (A .phases) (omega (arith, G .marking)) (spanOf (h .table) w)) gray-allocated
 
-  pub gray-words : (b : List ℕ) → length b ≡ length (h .bits) → Each (h .pages) (h .table) b (h .arena) w (pointerCount h w)
+  pub gray-words : (b : List ℕ) → length b ≡ length (h .bits) → ShadableSlice (h .pages) (h .table) b (h .arena) w (pointerCount h w)
   gray-words b e =
       let A = G .audited in
       let R = first-props (elementWords (h .table) (spanOf (h .table) w)) (λ f. not (is pointer h (w + f))) in
       record {
-        tables = record { high = A .sized .high; table = A .sized .table; bits = e ∙ A .sized .bits };
+        tables = record { few = A .sized .high; table = A .sized .table; bits = e ∙ A .sized .bits };
         inside = omega (arith, R .within, lies gray-record .inside, A .sized .arena);
         each = λ i l d. reference-named (A .spans) (A .bits) (getD (h .arena) (w + i) 0) (pointer-word A w gray-allocated gray-kept i l .1) d;
       }
@@ -92,20 +94,20 @@ unfolding scanRecord putBit
 record-scanned h w e f S = S .bits ∙ rw (e, f)
 
 -- the lowest gray record is gray
-pub first-gray : (h : Heap) → Audited h → getD (h .roots) phaseAt 0 ≡ 1 → firstGray h < pageWords * h .pages → Gray h (firstGray h)
+pub first-gray : (h : Heap) → Audited h → getD (h .roots) phaseAt 0 ≡ mark → firstGray h < pageWords * h .pages → Gray h (firstGray h)
 unfolding firstGray
 first-gray h A m l = record { audited = A; marking = m; grays = first-props (words h) (is gray h) .holds l }
 
 module _ (p : ℕ) (a t b r : List ℕ) where
-  pub step-refused : getD r phaseAt 0 ≢ 1 → Meets (markStep (lent p a t b r)) (Refused 2) a t b r
+  pub step-refused : getD r phaseAt 0 ≢ mark → Meets (markStep (lent p a t b r)) (Refused wrongPhase) a t b r
   unfolding markStep _given_
-  step-refused d = meets {p = p} (rw (ne-eqb (getD r phaseAt 0) 1 d))
+  step-refused d = meets {p = p} (rw (ne-eqb (getD r phaseAt 0) mark d))
 
-  pub step-none : getD r phaseAt 0 ≡ 1 → pageWords * p ≤ firstGray (lent p a t b r) → Meets (markStep (lent p a t b r)) (Value 0) a t b r
+  pub step-none : getD r phaseAt 0 ≡ mark → pageWords * p ≤ firstGray (lent p a t b r) → Meets (markStep (lent p a t b r)) (Value 0) a t b r
   unfolding markStep _given_
   step-none e l = meets {p = p} (rw (e, le-ltb (firstGray (lent p a t b r)) (pageWords * p) l))
 
-  pub step-done : getD r phaseAt 0 ≡ 1 → firstGray (lent p a t b r) < pageWords * p → {v : ℕ} {b' : List ℕ} → v ≡ addressOf (firstGray (lent p a t b r)) →
+  pub step-done : getD r phaseAt 0 ≡ mark → firstGray (lent p a t b r) < pageWords * p → {v : ℕ} {b' : List ℕ} → v ≡ addressOf (firstGray (lent p a t b r)) →
       b' ≡ scanRecord (firstGray (lent p a t b r)) (lent p a t b r) → Meets (markStep (lent p a t b r)) (Value v) a t b' r
   unfolding markStep _given_
   step-done e l f g = meets {p = p} (rw (e, lt-ltb (firstGray (lent p a t b r)) (pageWords * p) l, f, g))

@@ -5,21 +5,21 @@ ghost use mathlib.Core.Path.{_≡_};
 ghost use mathlib.Core.List.{List};
 ghost use Prim.Native.Nat.{ℕ, _+_};
 ghost use lib.Dec.{eqb};
-ghost use lib.ListN.{length, getD};
+ghost use lib.ListN.{getD};
 ghost use Rattle.model.specs.Bounded.{someBelow};
-ghost use Rattle.model.specs.Memory.{lent, rootWords, firstState, stackCount, grayState};
+ghost use Rattle.model.specs.Memory.{lent, firstState, stackCount, grayState};
 ghost use Rattle.model.specs.Answers.{Meets};
 ghost use Rattle.model.specs.Spans.{pointerCount};
 ghost use Rattle.model.specs.Cycle.{firstGray, scanRecord, markStep, finishRefusal, finish};
-ghost use Rattle.model.specs.Facts.{Audited};
-ghost use Rattle.scanning.specs.Needs.{AuditedWithout, Does};
-ghost use Rattle.cycle.specs.Needs.{Mapped, Record, Gray};
+ghost use Rattle.model.specs.Facts.{Audited, Element};
+ghost use Rattle.model.specs.Lent.{Roots, Bitmaps, Mapped, AuditedWithoutArena, MeetsWithoutArena};
+ghost use Rattle.cycle.specs.Needs.{Gray};
 use model::Answer;
 use units::Word;
 
 // The first word of the lowest gray record, or the number of the arena's words.
 fn first_gray(p: usize, bits: &[u64]) -> usize
-    requires { ⌜ Mapped p (now bits) ⌝ }
+    requires { ⌜ Bitmaps p (now bits) ⌝ }
     ensures { λ r. ⌜ ((a t roots : List ℕ) → r ≡ firstGray (lent p a t (now (bits .entry)) roots)) ⌝ }
 {
     let words = units::PAGE_WORDS * p;
@@ -30,8 +30,9 @@ fn first_gray(p: usize, bits: &[u64]) -> usize
 // How many pointer words the record at word w has: its pointer bits are a run from its first word on,
 // up to its element's end at most.
 fn pointer_count(p: usize, table: &[u32], bits: &[u64], w: usize) -> usize
-    requires { ⌜ Record p (now table) (now bits) w ⌝ }
-    ensures { λ r. ⌜ ((a roots : List ℕ) → r ≡ pointerCount (lent p a (now (table .entry)) (now (bits .entry)) roots) w) ⌝ }
+    requires { ⌜ Mapped p (now table) (now bits) × Element (now table) w ⌝ }
+    ensures { λ r. ⌜
+        ((a roots : List ℕ) → r ≡ pointerCount (lent p a (now (table .entry)) (now (bits .entry)) roots) w) ⌝ }
 {
     let size = spans::element_words(table, pages::span_of_word(table, w));
     let first = 3 * (units::PAGE_WORDS * p) + w;
@@ -41,7 +42,9 @@ fn pointer_count(p: usize, table: &[u32], bits: &[u64], w: usize) -> usize
 // The gray record at word w: its gray bit goes, and its pointer words are shaded.
 fn scan_record(p: usize, arena: &[u64], table: &[u32], bits: &mut [u64], roots: &[u64], w: usize)
     requires { ⌜ Gray (lent p (now arena) (now table) (now bits) (now roots)) w ⌝ }
-    ensures { λ r. ⌜ now (bits .exit) ≡ scanRecord w (lent p (now (arena .entry)) (now (table .entry)) (now (bits .entry)) (now (roots .entry))) ⌝ }
+    ensures { λ r. ⌜
+        now (bits .exit) ≡ scanRecord w
+        (lent p (now (arena .entry)) (now (table .entry)) (now (bits .entry)) (now (roots .entry))) ⌝ }
 {
     let n = pointer_count(p, table, bits, w);
     bitmap::clear(bits, 2 * (units::PAGE_WORDS * p) + w);
@@ -51,7 +54,9 @@ fn scan_record(p: usize, arena: &[u64], table: &[u32], bits: &mut [u64], roots: 
 // One mark step: the gray record with the lowest address.
 pub fn mark_step(p: usize, arena: &[u64], table: &[u32], bits: &mut [u64], roots: &[u64]) -> Answer
     requires { ⌜ Audited (lent p (now arena) (now table) (now bits) (now roots)) ⌝ }
-    ensures { λ r. ⌜ Meets (markStep (lent p (now (arena .entry)) (now (table .entry)) (now (bits .entry)) (now (roots .entry)))) r (now (arena .entry)) (now (table .entry)) (now (bits .exit)) (now (roots .entry)) ⌝ }
+    ensures { λ r. ⌜
+        Meets (markStep (lent p (now (arena .entry)) (now (table .entry)) (now (bits .entry)) (now (roots .entry)))) r
+        (now (arena .entry)) (now (table .entry)) (now (bits .exit)) (now (roots .entry)) ⌝ }
 {
     if roots[units::PHASE] != units::MARK {
         return Answer::Refused(units::WRONG_PHASE);
@@ -66,7 +71,7 @@ pub fn mark_step(p: usize, arena: &[u64], table: &[u32], bits: &mut [u64], roots
 
 // Some stack is gray.
 fn some_gray(roots: &[u64]) -> bool
-    requires { ⌜ length (now roots) ≡ rootWords ⌝ }
+    requires { ⌜ Roots (now roots) ⌝ }
     ensures { λ r. ⌜ r ≡ someBelow stackCount (λ s. eqb (getD (now (roots .entry)) (firstState + s) 0) grayState) ⌝ }
 {
     let mut s = 0;
@@ -81,7 +86,7 @@ fn some_gray(roots: &[u64]) -> bool
 
 // The refusal of a finish: something is gray.
 fn finish_refusal(p: usize, bits: &[u64], roots: &[u64]) -> u64
-    requires { ⌜ Mapped p (now bits) × (length (now roots) ≡ rootWords) ⌝ }
+    requires { ⌜ Bitmaps p (now bits) × Roots (now roots) ⌝ }
     ensures { λ r. ⌜ ((a t : List ℕ) → r ≡ finishRefusal (lent p a t (now (bits .entry)) (now (roots .entry)))) ⌝ }
 {
     if roots[units::PHASE] != units::MARK {
@@ -101,8 +106,10 @@ fn finish_refusal(p: usize, bits: &[u64], roots: &[u64]) -> u64
 
 // Marking ends: every span becomes unswept.
 pub fn finish(p: usize, table: &mut [u32], bits: &[u64], roots: &mut [u64]) -> Answer
-    requires { ⌜ AuditedWithout p (now table) (now bits) (now roots) ⌝ }
-    ensures { λ r. ⌜ Does (λ h. finish h) p (now (table .entry)) (now (bits .entry)) (now (roots .entry)) r (now (table .exit)) (now (bits .entry)) (now (roots .exit)) ⌝ }
+    requires { ⌜ AuditedWithoutArena p (now table) (now bits) (now roots) ⌝ }
+    ensures { λ r. ⌜
+        MeetsWithoutArena (λ h. finish h) p (now (table .entry)) (now (bits .entry)) (now (roots .entry)) r
+        (now (table .exit)) (now (bits .entry)) (now (roots .exit)) ⌝ }
 {
     let n = finish_refusal(p, bits, roots);
     if n != 0 {

@@ -1,9 +1,9 @@
 -- A call of a trace as a call of the model, with its numbers in the same order.
 use Rattle.model.specs.Calls as model
-use Rattle.lines.specs.declared.Call.{Call}
-use Rattle.lines.specs.declared.Call.the-variants.{Open, Close, Allocate, Copy, Clear, Load, Store, Put, Get, LoadGlobal, StoreGlobal, Start, ScanStack, ScanGlobals, MarkStep, Finish, SweepStep}
+use Rattle.lines.specs.declared.LineCall.{LineCall}
+use Rattle.lines.specs.declared.LineCall.the-variants.{Open, Close, Allocate, Copy, Clear, Load, Store, Put, Get, LoadGlobal, StoreGlobal, Start, ScanStack, ScanGlobals, MarkStep, Finish, SweepStep}
 
-abbrev pub callOf : Call → model.Call
+abbrev pub callOf : LineCall → model.Call
 callOf (Open s) = model.Open s
 callOf (Close s) = model.Close s
 callOf (Allocate s i size pointers) = model.Allocate s i size pointers

@@ -3,7 +3,7 @@ ghost use Rattle.model.specs.Memory.{lent};
 ghost use Rattle.model.specs.Answers.{Meets};
 ghost use Rattle.model.specs.Calls.{run};
 ghost use Rattle.dispatch.specs.Dispatch.{callOf};
-use lines::Call;
+use lines::LineCall;
 use model::Answer;
 
 // The call on the four buffers of p pages.
@@ -13,14 +13,18 @@ pub fn make(
     table: &mut [u32],
     bits: &mut [u64],
     roots: &mut [u64],
-    call: Call,
+    call: LineCall,
 ) -> Answer
-    ensures { λ r. ⌜ Meets (run (lent p (now (arena .entry)) (now (table .entry)) (now (bits .entry)) (now (roots .entry))) (callOf call)) r (now (arena .exit)) (now (table .exit)) (now (bits .exit)) (now (roots .exit)) ⌝ }
+    ensures { λ r. ⌜
+        Meets
+        (run (lent p (now (arena .entry)) (now (table .entry)) (now (bits .entry)) (now (roots .entry)))
+        (callOf call))
+        r (now (arena .exit)) (now (table .exit)) (now (bits .exit)) (now (roots .exit)) ⌝ }
 {
     match call {
-        Call::Open(s) => heap::open(p, arena, table, bits, roots, s),
-        Call::Close(s) => heap::close(p, arena, table, bits, roots, s),
-        Call::Allocate(s, i, size, pointers) => heap::alloc(
+        LineCall::Open(s) => heap::open(p, arena, table, bits, roots, s),
+        LineCall::Close(s) => heap::close(p, arena, table, bits, roots, s),
+        LineCall::Allocate(s, i, size, pointers) => heap::alloc(
             p,
             arena,
             table,
@@ -31,19 +35,19 @@ pub fn make(
             size,
             pointers,
         ),
-        Call::Copy(s, i, j) => heap::copy(p, arena, table, bits, roots, s, i, j),
-        Call::Clear(s, i) => heap::clear(p, arena, table, bits, roots, s, i),
-        Call::Load(s, i, j, f) => heap::load(p, arena, table, bits, roots, s, i, j, f),
-        Call::Store(s, j, f, k) => heap::store(p, arena, table, bits, roots, s, j, f, k),
-        Call::Put(s, j, f, v) => heap::put(p, arena, table, bits, roots, s, j, f, v),
-        Call::Get(s, j, f) => heap::get(p, arena, table, bits, roots, s, j, f),
-        Call::LoadGlobal(s, i, g) => heap::load_global(p, arena, table, bits, roots, s, i, g),
-        Call::StoreGlobal(s, g, i) => heap::store_global(p, arena, table, bits, roots, s, g, i),
-        Call::Start => heap::start(p, arena, table, bits, roots),
-        Call::ScanStack(s) => heap::scan_stack(p, arena, table, bits, roots, s),
-        Call::ScanGlobals => heap::scan_globals(p, arena, table, bits, roots),
-        Call::MarkStep => heap::mark_step(p, arena, table, bits, roots),
-        Call::Finish => heap::finish(p, arena, table, bits, roots),
-        Call::SweepStep => heap::sweep_step(p, arena, table, bits, roots),
+        LineCall::Copy(s, i, j) => heap::copy(p, arena, table, bits, roots, s, i, j),
+        LineCall::Clear(s, i) => heap::clear(p, arena, table, bits, roots, s, i),
+        LineCall::Load(s, i, j, f) => heap::load(p, arena, table, bits, roots, s, i, j, f),
+        LineCall::Store(s, j, f, k) => heap::store(p, arena, table, bits, roots, s, j, f, k),
+        LineCall::Put(s, j, f, v) => heap::put(p, arena, table, bits, roots, s, j, f, v),
+        LineCall::Get(s, j, f) => heap::get(p, arena, table, bits, roots, s, j, f),
+        LineCall::LoadGlobal(s, i, g) => heap::load_global(p, arena, table, bits, roots, s, i, g),
+        LineCall::StoreGlobal(s, g, i) => heap::store_global(p, arena, table, bits, roots, s, g, i),
+        LineCall::Start => heap::start(p, arena, table, bits, roots),
+        LineCall::ScanStack(s) => heap::scan_stack(p, arena, table, bits, roots, s),
+        LineCall::ScanGlobals => heap::scan_globals(p, arena, table, bits, roots),
+        LineCall::MarkStep => heap::mark_step(p, arena, table, bits, roots),
+        LineCall::Finish => heap::finish(p, arena, table, bits, roots),
+        LineCall::SweepStep => heap::sweep_step(p, arena, table, bits, roots),
     }
 }

@@ -6,7 +6,7 @@ use mathlib.Core.Path.{_≡_}
 use lib.Dec.{ltb, leb}
 use borrow.Author.Tests.{eq-eqb, ne-eqb, ltb-true, ltb-false, lt-leb, le-leb, not-true, not-false}
 use Rattle.model.specs.Memory.{Heap, slot}
-use Rattle.model.specs.Answers.{_given_, _orElse_}
+use Rattle.model.specs.Answers.{nilSlot, badField, _given_, _orElse_}
 use Rattle.model.specs.Spans.{spanOf, elementWords, pointerCount}
 use Rattle.model.specs.Checks.{slotRefusal, slotsRefusal, pointerRefusal, numberRefusal, recordAt}
 
@@ -15,7 +15,7 @@ module _ (h : Heap) (s i j f : ℕ) {n : ℕ} (e : n ≡ slotsRefusal h s i j) w
   unfolding pointerRefusal _orElse_
   pointer-slots d = rw (← e, ne-eqb n 0 d)
 
-  pub pointer-nil : n ≡ 0 → slot h s j ≡ 0 → 6 ≡ pointerRefusal h s i j f
+  pub pointer-nil : n ≡ 0 → slot h s j ≡ 0 → nilSlot ≡ pointerRefusal h s i j f
   unfolding pointerRefusal _orElse_ _given_
   pointer-nil z x = rw (← e, eq-eqb n 0 z, eq-eqb (slot h s j) 0 x)
 
@@ -23,7 +23,7 @@ module _ (h : Heap) (s i j f : ℕ) {n : ℕ} (e : n ≡ slotsRefusal h s i j) w
   unfolding pointerRefusal _orElse_ _given_
   pointer-yes z d x = rw (← e, eq-eqb n 0 z, ne-eqb (slot h s j) 0 d, lt-leb (pointerCount h (recordAt h s j)) f (ltb-true f (pointerCount h (recordAt h s j)) x))
 
-  pub pointer-no : n ≡ 0 → slot h s j ≢ 0 → ltb f (pointerCount h (recordAt h s j)) ≡ false → 7 ≡ pointerRefusal h s i j f
+  pub pointer-no : n ≡ 0 → slot h s j ≢ 0 → ltb f (pointerCount h (recordAt h s j)) ≡ false → badField ≡ pointerRefusal h s i j f
   unfolding pointerRefusal _orElse_ _given_
   pointer-no z d x = rw (← e, eq-eqb n 0 z, ne-eqb (slot h s j) 0 d, le-leb (pointerCount h (recordAt h s j)) f (ltb-false f (pointerCount h (recordAt h s j)) x))
 
@@ -36,7 +36,7 @@ module _ (h : Heap) (s j f : ℕ) {n : ℕ} (e : n ≡ slotRefusal h s j) where
   unfolding numberRefusal _orElse_
   number-slot d = rw (← e, ne-eqb n 0 d)
 
-  pub number-nil : n ≡ 0 → slot h s j ≡ 0 → 6 ≡ numberRefusal h s j f
+  pub number-nil : n ≡ 0 → slot h s j ≡ 0 → nilSlot ≡ numberRefusal h s j f
   unfolding numberRefusal _orElse_ _given_
   number-nil z x = rw (← e, eq-eqb n 0 z, eq-eqb (slot h s j) 0 x)
 
@@ -44,6 +44,6 @@ module _ (h : Heap) (s j f : ℕ) {n : ℕ} (e : n ≡ slotRefusal h s j) where
   unfolding numberRefusal _orElse_ _given_
   number-yes z d x = rw (← e, eq-eqb n 0 z, ne-eqb (slot h s j) 0 d, not-true (outside h (recordAt h s j) f) x)
 
-  pub number-no : n ≡ 0 → slot h s j ≢ 0 → not (outside h (recordAt h s j) f) ≡ false → 7 ≡ numberRefusal h s j f
+  pub number-no : n ≡ 0 → slot h s j ≢ 0 → not (outside h (recordAt h s j) f) ≡ false → badField ≡ numberRefusal h s j f
   unfolding numberRefusal _orElse_ _given_
   number-no z d x = rw (← e, eq-eqb n 0 z, ne-eqb (slot h s j) 0 d, not-false (outside h (recordAt h s j) f) x)

@@ -10,8 +10,9 @@ ghost use Rattle.model.specs.Bounded.{_<?_, _≤?_};
 ghost use Rattle.model.specs.Memory.{lent};
 ghost use Rattle.model.specs.Spans.{spanOf, elementWords, pointerCount};
 ghost use Rattle.model.specs.Checks.{pointerRefusal, numberRefusal, recordAt};
-ghost use Rattle.root_checks.specs.OnRoots.{Tests as OnRoots};
-ghost use Rattle.fields.specs.Needs.{Entries, Record, Field, Rooted, Tests};
+ghost use Rattle.model.specs.Facts.{Element};
+ghost use Rattle.model.specs.Lent.{Consistent, NumberByRoots, NumberWithoutArena};
+ghost use Rattle.fields.specs.Needs.{Entries, Field, Rooted};
 use units::Address;
 
 // The element at word w has a word f.
@@ -26,8 +27,9 @@ fn in_element(table: &[u32], w: usize, f: u64) -> bool
 
 // Field f of the record at word w is one of its pointer words.
 fn is_pointer(p: usize, table: &[u32], bits: &[u64], w: usize, f: u64) -> bool
-    requires { ⌜ Record p (now table) (now bits) w ⌝ }
-    ensures { λ r. ⌜ ((a s : List ℕ) → r ≡ (f <? pointerCount (lent p a (now (table .entry)) (now (bits .entry)) s) w)) ⌝ }
+    requires { ⌜ Consistent p (now table) (now bits) × Element (now table) w ⌝ }
+    ensures { λ r. ⌜
+        ((a s : List ℕ) → r ≡ (f <? pointerCount (lent p a (now (table .entry)) (now (bits .entry)) s) w)) ⌝ }
 {
     if !in_element(table, w, f) {
         return false;
@@ -37,8 +39,10 @@ fn is_pointer(p: usize, table: &[u32], bits: &[u64], w: usize, f: u64) -> bool
 
 // Field f of the record at word w is one of the words after its pointer words.
 fn is_number(p: usize, table: &[u32], bits: &[u64], w: usize, f: u64) -> bool
-    requires { ⌜ Record p (now table) (now bits) w ⌝ }
-    ensures { λ r. ⌜ ((a s : List ℕ) → r ≡ not (f <? pointerCount (lent p a (now (table .entry)) (now (bits .entry)) s) w || elementWords (now (table .entry)) (spanOf (now (table .entry)) w) ≤? f)) ⌝ }
+    requires { ⌜ Consistent p (now table) (now bits) × Element (now table) w ⌝ }
+    ensures { λ r. ⌜
+        ((a s : List ℕ) → r ≡ not (f <? pointerCount (lent p a (now (table .entry)) (now (bits .entry)) s) w ||
+        elementWords (now (table .entry)) (spanOf (now (table .entry)) w) ≤? f)) ⌝ }
 {
     if !in_element(table, w, f) {
         return false;
@@ -58,7 +62,9 @@ pub fn pointer_refusal(
     f: u64,
 ) -> u64
     requires { ⌜ Rooted p (now table) (now bits) (now roots) ⌝ }
-    ensures { λ r. ⌜ Tests (λ h. pointerRefusal h s i j f) p (now (table .entry)) (now (bits .entry)) (now (roots .entry)) r ⌝ }
+    ensures { λ r. ⌜
+        NumberWithoutArena (λ h. pointerRefusal h s i j f) p (now (table .entry)) (now (bits .entry))
+        (now (roots .entry)) r ⌝ }
 {
     let n = root_checks::slots_refusal(roots, s, i, j);
     if n != 0 {
@@ -87,7 +93,9 @@ pub fn number_refusal(
     f: u64,
 ) -> u64
     requires { ⌜ Rooted p (now table) (now bits) (now roots) ⌝ }
-    ensures { λ r. ⌜ Tests (λ h. numberRefusal h s j f) p (now (table .entry)) (now (bits .entry)) (now (roots .entry)) r ⌝ }
+    ensures { λ r. ⌜
+        NumberWithoutArena (λ h. numberRefusal h s j f) p (now (table .entry)) (now (bits .entry))
+        (now (roots .entry)) r ⌝ }
 {
     let n = root_checks::slot_refusal(roots, s, j);
     if n != 0 {
@@ -108,7 +116,7 @@ pub fn number_refusal(
 // The arena word of field f of the record in slot j of stack s.
 pub fn field_at(roots: &[u64], s: u64, j: u64, f: u64) -> usize
     requires { ⌜ Field (now roots) s j f ⌝ }
-    ensures { λ r. ⌜ OnRoots (λ h. recordAt h s j + f) (now (roots .entry)) r ⌝ }
+    ensures { λ r. ⌜ NumberByRoots (λ h. recordAt h s j + f) (now (roots .entry)) r ⌝ }
 {
     let slot = root_checks::slot_at(s, j);
     let v = roots[slot];

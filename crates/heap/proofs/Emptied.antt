@@ -6,7 +6,7 @@ use native.Mathlib.Omega.{arith}
 use lib.ListN.{length, replicate, set}
 use lib.Dec.{T}
 use Rattle.model.specs.Memory.{Heap, goodBuffers, globalsStateAt, openState}
-use Rattle.model.specs.Answers.{Meets, _given_}
+use Rattle.model.specs.Answers.{Meets, badBuffers, _given_}
 use Rattle.model.specs.Checks.{buffersRefusal}
 use Rattle.model.specs.Records.{fresh, setup}
 use Rattle.model.specs.Calls.{Setup, run}
@@ -16,11 +16,11 @@ use Rattle.model.specs.Facts.{Sized}
 use Rattle.model.proofs.Audit.{sized, sized-good}
 use Rattle.model.proofs.Outcomes.{refused, accepted}
 
-pub setup-refused : (h : Heap) (b : Bool) → (T b ↔ Sized h) → not b ≡ true → Meets (run h Setup) (Refused 1) (h .arena) (h .table) (h .bits) (h .roots)
+pub setup-refused : (h : Heap) (b : Bool) → (T b ↔ Sized h) → not b ≡ true → Meets (run h Setup) (Refused badBuffers) (h .arena) (h .table) (h .bits) (h .roots)
 unfolding setup
 setup-refused h b f e = refused (buffersRefusal h) h Done (fresh h) (go (goodBuffers h) refl b f e) (omega arith)
   where
-    go : (g : Bool) → goodBuffers h ≡ g → (b : Bool) → (T b ↔ Sized h) → not b ≡ true → 1 ≡ (1 given not g)
+    go : (g : Bool) → goodBuffers h ≡ g → (b : Bool) → (T b ↔ Sized h) → not b ≡ true → badBuffers ≡ (badBuffers given not g)
     go true p true f e = absurd (mathlib.Core.Bool.true≢false (mathlib.Core.Path.sym e))
     go true p false f e = absurd (f .1 (sized h (is-true (goodBuffers h) p)))
     go false p b f e = unfold _given_ in refl

@@ -3,18 +3,18 @@ use Prim.Native.Nat.{ℕ, _+_, _-_, _<_, _≤_, min}
 use mathlib.Core.Bool.{Bool, true, false, cond, true≢false}
 use mathlib.Core.List.{List}
 use mathlib.Core.Logic.{_≢_, ⊎-elim}
-use mathlib.Core.Path.{_≡_, refl, sym, _∙_, ap}
+use mathlib.Core.Path.{_≡_, refl, sym, _∙_}
 use native.Mathlib.Nat.{eq-or-lt-of-le}
 use native.Mathlib.Omega.{arith}
 use lib.Dec.{eqb, ltb}
 use lib.ListN.{length, getD, set, length-set}
 use borrow.Author.Tests.{eq-eqb, ne-eqb, eqb-true, ltb-true, ltb-false, lt-ltb, le-ltb}
-use Rattle.model.specs.Bounded.{firstBelow}
 use Rattle.model.specs.Memory.{putWords}
 use Rattle.model.proofs.Bounded.{First, first-is, first-props, run-none, run-step}
+use Rattle.lines.specs.Lines.{longestLine}
 use Rattle.line_buffer.specs.declared.Taken.{Taken}
 use Rattle.line_buffer.specs.declared.Taken.the-variants.{Line, Part, TooLong}
-use Rattle.line_buffer.specs.Split.{Fits, Short, beforeFeed, taken, joined}
+use Rattle.line_buffer.specs.Split.{UnderWay, Short, lineFeed, beforeFeed, taken, joined}
 
 module _ (line : List ℕ) (used : ℕ) (block : List ℕ) (from : ℕ) where
   -- the byte of the block that comes to place x of the line
@@ -22,31 +22,31 @@ module _ (line : List ℕ) (used : ℕ) (block : List ℕ) (from : ℕ) where
   byte x = getD block (from + (x - used)) 0
 
   -- the bytes from `from` up to i are passed: none is a line feed, and the line has them, up to its place `at`
-  pub record Passed (l : List ℕ) (at i : ℕ) : Type 0 where
+  pub record Copied (l : List ℕ) (at i : ℕ) : Type 0 where
     pub begun : from ≤ i
     pub inside : i ≤ length block
     pub counted : at ≡ used + (i - from)
-    pub room : at ≤ 80
-    pub size : length l ≡ 80
-    pub none : (k : ℕ) → k < i - from → eqb (getD block (from + k) 0) 10 ≡ false
+    pub room : at ≤ longestLine
+    pub size : length l ≡ longestLine
+    pub none : (k : ℕ) → k < i - from → eqb (getD block (from + k) 0) lineFeed ≡ false
     pub bytes : l ≡ putWords used (i - from) byte line
 
-  pub none-passed : Fits line used block from → Passed line used from
-  none-passed F =
+  pub none-copied : UnderWay line used block from → Copied line used from
+  none-copied F =
       let z : from - from ≡ 0 = omega arith in
       record {
         begun = omega arith;
         inside = F .place;
         counted = omega arith;
-        room = F .under-way;
+        room = F .room;
         size = F .size;
         none = λ k l. absurd (omega arith);
         bytes = rw z (sym (run-none (λ i v l. set l i v) used byte line));
       }
 
-  module _ {l : List ℕ} {at i : ℕ} (P : Passed l at i) where
+  module _ {l : List ℕ} {at i : ℕ} (P : Copied l at i) where
     -- one byte more
-    pub one-more : i < length block → getD block i 0 ≢ 10 → at ≢ 80 → Passed (set l at (getD block i 0)) (at + 1) (i + 1)
+    pub one-more : i < length block → getD block i 0 ≢ lineFeed → at ≢ longestLine → Copied (set l at (getD block i 0)) (at + 1) (i + 1)
     one-more h d e = record {
       begun = omega (arith, P .begun);
       inside = omega arith;
@@ -57,10 +57,10 @@ module _ (line : List ℕ) (used : ℕ) (block : List ℕ) (from : ℕ) where
       bytes = next;
     }
       where
-        last : (k : ℕ) → k ≡ i - from → eqb (getD block (from + k) 0) 10 ≡ false
+        last : (k : ℕ) → k ≡ i - from → eqb (getD block (from + k) 0) lineFeed ≡ false
         last k q =
             let x : from + k ≡ i = omega (arith, P .begun) in
-            rw x (ne-eqb (getD block i 0) 10 d)
+            rw x (ne-eqb (getD block i 0) lineFeed d)
 
         next : set l at (getD block i 0) ≡ putWords used ((i + 1) - from) byte line
         next =
@@ -69,25 +69,25 @@ module _ (line : List ℕ) (used : ℕ) (block : List ℕ) (from : ℕ) where
             rw (n, run-step (λ i v l. set l i v) used (i - from) byte line, x, ← P .bytes, ← P .counted)
 
     -- where the next line feed is, or the block's end
-    feed-here : (i < length block → getD block i 0 ≡ 10) → beforeFeed block from ≡ i - from
+    feed-here : (i < length block → getD block i 0 ≡ lineFeed) → beforeFeed block from ≡ i - from
     unfolding beforeFeed
-    feed-here f = first-is (length block - from) (λ k. eqb (getD block (from + k) 0) 10) (i - from) (record {
+    feed-here f = first-is (length block - from) (λ k. eqb (getD block (from + k) 0) lineFeed) (i - from) (record {
       within = omega (arith, P .inside);
       before = P .none;
-      holds = λ m. let x : from + (i - from) ≡ i = omega (arith, P .begun) in rw x (eq-eqb (getD block i 0) 10 (f (omega arith)));
+      holds = λ m. let x : from + (i - from) ≡ i = omega (arith, P .begun) in rw x (eq-eqb (getD block i 0) lineFeed (f (omega arith)));
     })
 
     -- the line has the bytes passed
-    has-joined : min (beforeFeed block from) (80 - used) ≡ i - from → l ≡ joined line used block from
+    has-joined : min (beforeFeed block from) (longestLine - used) ≡ i - from → l ≡ joined line used block from
     unfolding joined
     has-joined e = rw e (P .bytes)
 
-    pub line-ends : i < length block → getD block i 0 ≡ 10 → (Line at (i + 1) ≡ taken used block from) × (l ≡ joined line used block from)
+    pub line-ends : i < length block → getD block i 0 ≡ lineFeed → (Line at (i + 1) ≡ taken used block from) × (l ≡ joined line used block from)
     unfolding taken
     line-ends h f =
         let e = feed-here (λ _. f) in
         let x : from + (i - from) ≡ i = omega (arith, P .begun) in (
-          rw (e, le-ltb 80 (used + (i - from)) (omega (arith, P .counted, P .room)), lt-ltb (i - from) (length block - from) (omega (arith, P .begun)), x, ← P .counted),
+          rw (e, le-ltb longestLine (used + (i - from)) (omega (arith, P .counted, P .room)), lt-ltb (i - from) (length block - from) (omega (arith, P .begun)), x, ← P .counted),
           has-joined (omega (arith, e, P .counted, P .room)),
         )
 
@@ -95,23 +95,23 @@ module _ (line : List ℕ) (used : ℕ) (block : List ℕ) (from : ℕ) where
     unfolding taken
     block-ends h =
         let e = feed-here (λ m. absurd (omega arith)) in (
-          rw (e, le-ltb 80 (used + (i - from)) (omega (arith, P .counted, P .room)), le-ltb (i - from) (length block - from) (omega arith), ← P .counted),
+          rw (e, le-ltb longestLine (used + (i - from)) (omega (arith, P .counted, P .room)), le-ltb (i - from) (length block - from) (omega arith), ← P .counted),
           has-joined (omega (arith, e, P .counted, P .room)),
         )
 
-    pub too-long : i < length block → getD block i 0 ≢ 10 → at ≡ 80 → (TooLong ≡ taken used block from) × (l ≡ joined line used block from)
+    pub too-long : i < length block → getD block i 0 ≢ lineFeed → at ≡ longestLine → (TooLong ≡ taken used block from) × (l ≡ joined line used block from)
     unfolding taken
     too-long h d e =
-        (rw (lt-ltb 80 (used + beforeFeed block from) (omega (arith, further, P .counted))), has-joined (omega (arith, further, P .counted)))
+        (rw (lt-ltb longestLine (used + beforeFeed block from) (omega (arith, further, P .counted))), has-joined (omega (arith, further, P .counted)))
       where
-        F : First (length block - from) (λ k. eqb (getD block (from + k) 0) 10) (beforeFeed block from)
-        F = unfold beforeFeed in first-props (length block - from) (λ k. eqb (getD block (from + k) 0) 10)
+        F : First (length block - from) (λ k. eqb (getD block (from + k) 0) lineFeed) (beforeFeed block from)
+        F = unfold beforeFeed in first-props (length block - from) (λ k. eqb (getD block (from + k) 0) lineFeed)
 
         -- no line feed up to the byte at i
         no-feed : beforeFeed block from ≤ i - from → ⊥
         no-feed m =
             let t = F .holds (omega (arith, P .begun)) in
-            ⊎-elim (λ q. d (let x : from + beforeFeed block from ≡ i = omega (arith, P .begun) in eqb-true (getD block i 0) 10 (rw x at t)))
+            ⊎-elim (λ q. d (let x : from + beforeFeed block from ≡ i = omega (arith, P .begun) in eqb-true (getD block i 0) lineFeed (rw x at t)))
             (λ q. true≢false (sym t ∙ P .none (beforeFeed block from) q)) (eq-or-lt-of-le m)
 
         further : i - from < beforeFeed block from
@@ -128,16 +128,16 @@ module _ (used : ℕ) (block : List ℕ) (from : ℕ) where
 
   pub short : Short (taken used block from)
   unfolding taken
-  short = go (ltb 80 (used + bytes)) refl (ltb bytes (length block - from))
+  short = go (ltb longestLine (used + bytes)) refl (ltb bytes (length block - from))
     where
-      go : (b : Bool) → ltb 80 (used + bytes) ≡ b → (c : Bool) → Short (cond b TooLong (cond c (Line (used + bytes) (from + bytes + 1)) (Part (used + bytes))))
+      go : (b : Bool) → ltb longestLine (used + bytes) ≡ b → (c : Bool) → Short (cond b TooLong (cond c (Line (used + bytes) (from + bytes + 1)) (Part (used + bytes))))
       go true e c = tt
-      go false e true = ltb-false 80 (used + bytes) e
-      go false e false = ltb-false 80 (used + bytes) e
+      go false e true = ltb-false longestLine (used + bytes) e
+      go false e false = ltb-false longestLine (used + bytes) e
 
   goes-on : {n next : ℕ} → taken used block from ≡ Line n next → (from < next) × (next ≤ length block)
   unfolding taken
-  goes-on {n} {next} = go (ltb 80 (used + bytes)) (ltb bytes (length block - from)) refl
+  goes-on {n} {next} = go (ltb longestLine (used + bytes)) (ltb bytes (length block - from)) refl
     where
       go : (b c : Bool) → ltb bytes (length block - from) ≡ c → cond b TooLong (cond c (Line (used + bytes) (from + bytes + 1)) (Part (used + bytes))) ≡ Line n next →
           (from < next) × (next ≤ length block)
@@ -145,5 +145,5 @@ module _ (used : ℕ) (block : List ℕ) (from : ℕ) where
       go false false q e = let z : _≡_ {A = ℕ} 0 1 = cc in absurd (omega arith)
       go false true q e = let x : from + bytes + 1 ≡ next = cc in (omega arith, omega (arith, ltb-true bytes (length block - from) q))
 
-  pub line-taken : {r : Taken} {n next : ℕ} → r ≡ taken used block from → r ≡ Line n next → (n ≤ 80) × (from < next) × (next ≤ length block)
+  pub line-taken : {r : Taken} {n next : ℕ} → r ≡ taken used block from → r ≡ Line n next → (n ≤ longestLine) × (from < next) × (next ≤ length block)
   line-taken e f = let g = goes-on (sym e ∙ f) in (rw (sym e ∙ f) at short, g .0, g .1)

@@ -1,20 +1,16 @@
 -- Input split into lines: what the bytes of a block, from a place on, make of the line under way.
 use Prim.Native.Nat.{ℕ, _+_, _-_, _≤_, min}
-use mathlib.Core.Bool.{Bool}
 use mathlib.Core.List.{List}
 use mathlib.Core.Path.{_≡_}
 use lib.ListN.{length, getD}
 use Rattle.model.specs.Bounded.{_==_, _<?_, if_then_else_, firstBelow}
 use Rattle.model.specs.Memory.{putWords}
+use Rattle.lines.specs.Lines.{longestLine}
 use Rattle.line_buffer.specs.declared.Taken.{Taken}
 use Rattle.line_buffer.specs.declared.Taken.the-variants.{Line, Part, TooLong}
 
 abbrev pub lineFeed : ℕ
 lineFeed = 10
-
--- "lines of at most 80 bytes before the line feed"
-abbrev pub longest : ℕ
-longest = 80
 
 -- how many bytes from `from` on come before the next line feed, or the block's end
 unfoldable pub beforeFeed : List ℕ → ℕ → ℕ
@@ -25,20 +21,20 @@ unfoldable pub taken : ℕ → List ℕ → ℕ → Taken
 taken used block from =
     let n = beforeFeed block from in
     let rest = if n <? length block - from then Line (used + n) (from + n + 1) else Part (used + n) in
-    if longest <? used + n then TooLong else rest
+    if longestLine <? used + n then TooLong else rest
 
 -- the line under way with these bytes behind its first `used`, as many as it has room for
 unfoldable pub joined : List ℕ → ℕ → List ℕ → ℕ → List ℕ
-joined line used block from = putWords used (min (beforeFeed block from) (longest - used)) (λ i. getD block (from + (i - used)) 0) line
+joined line used block from = putWords used (min (beforeFeed block from) (longestLine - used)) (λ i. getD block (from + (i - used)) 0) line
 
--- what a line under way and a place in a block are
-pub record Fits (line : List ℕ) (used : ℕ) (block : List ℕ) (from : ℕ) : Type 0 where
-  pub size : length line ≡ longest
-  pub under-way : used ≤ longest
+-- a line under way, of which `used` bytes are read, and a place in a block
+pub record UnderWay (line : List ℕ) (used : ℕ) (block : List ℕ) (from : ℕ) : Type 0 where
+  pub size : length line ≡ longestLine
+  pub room : used ≤ longestLine
   pub place : from ≤ length block
 
 -- a line, and a part of one, has room in the buffer
 abbrev pub Short : Taken → Type 0
-Short (Line n next) = n ≤ longest
-Short (Part n) = n ≤ longest
+Short (Line n next) = n ≤ longestLine
+Short (Part n) = n ≤ longestLine
 Short TooLong = Unit {0}

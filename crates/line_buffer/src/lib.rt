@@ -2,7 +2,7 @@
 // bytes; a block is taken up to its next line feed, up to its end, or up to the byte for which the
 // line has no room.
 ghost use mathlib.Core.Path.{_≡_};
-ghost use Rattle.line_buffer.specs.Split.{Fits, taken, joined};
+ghost use Rattle.line_buffer.specs.Split.{UnderWay, taken, joined};
 use lines::LONGEST;
 
 const LINE_FEED: u8 = 10;
@@ -17,8 +17,10 @@ pub enum Taken {
 
 // The bytes of the block from `from` on join the `used` bytes of the line under way.
 pub fn take(line: &mut [u8], used: usize, block: &[u8], from: usize) -> Taken
-    requires { ⌜ Fits (now line) used (now block) from ⌝ }
-    ensures { λ r. ⌜ (r ≡ taken used (now (block .entry)) from) × (now (line .exit) ≡ joined (now (line .entry)) used (now (block .entry)) from) ⌝ }
+    requires { ⌜ UnderWay (now line) used (now block) from ⌝ }
+    ensures { λ r. ⌜
+        (r ≡ taken used (now (block .entry)) from) ×
+        (now (line .exit) ≡ joined (now (line .entry)) used (now (block .entry)) from) ⌝ }
 {
     let mut at = used;
     let mut i = from;

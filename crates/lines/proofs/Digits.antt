@@ -11,7 +11,7 @@ use lib.Seq.{drop-cons}
 use borrow.Author.Tests.{leb-true, lt-ltb, le-ltb, le-leb, lt-leb, ne-eqb}
 use Rattle.lines.specs.declared.Numbers.{Numbers}
 use Rattle.lines.specs.declared.Line.{Line}
-use Rattle.lines.specs.Lines.{isDigit, none, unread, before, ended, digits, number, numbersOf, lineOf, readLine, digitOf}
+use Rattle.lines.specs.Lines.{isDigit, none, unread, before, ended, digits, number, numbersOf, lineOf, longestLine, readLine, digitOf}
 
 -- a byte is a digit or not
 
@@ -167,12 +167,12 @@ unfolding readLine
 read-none [] h = refl
 read-none (b ∷ bs) h = absurd (omega arith)
 
-pub read-long : (line : List ℕ) → 80 < length line → readLine line ≡ Line.Bad
+pub read-long : (line : List ℕ) → longestLine < length line → readLine line ≡ Line.Bad
 unfolding readLine
 read-long [] h = refl
-read-long (b ∷ bs) h = rw (lt-leb (length (b ∷ bs)) 80 h)
+read-long (b ∷ bs) h = rw (lt-leb (length (b ∷ bs)) longestLine h)
 
-pub read-some : (line : List ℕ) → 1 ≤ length line → length line ≤ 80 → readLine line ≡ lineOf (getD line 0 0) (numbersOf (drop 1 line))
+pub read-some : (line : List ℕ) → 1 ≤ length line → length line ≤ longestLine → readLine line ≡ lineOf (getD line 0 0) (numbersOf (drop 1 line))
 unfolding readLine
 read-some [] h l = absurd (omega arith)
-read-some (b ∷ bs) h l = rw (le-leb (length (b ∷ bs)) 80 l)
+read-some (b ∷ bs) h l = rw (le-leb (length (b ∷ bs)) longestLine l)

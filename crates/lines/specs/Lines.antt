@@ -5,7 +5,7 @@ use mathlib.Core.List.{List, [], _∷_}
 use mathlib.Core.Path.{_≡_}
 use lib.ListN.{length, drop}
 use Rattle.model.specs.Bounded.{_==_, _<?_, _≤?_, if_then_else_}
-use Rattle.lines.specs.declared.Call.the-variants.{Open, Close, Allocate, Copy, Clear, Load, Store, Put, Get, LoadGlobal, StoreGlobal, Start, ScanStack, ScanGlobals, MarkStep, Finish, SweepStep}
+use Rattle.lines.specs.declared.LineCall.the-variants.{Open, Close, Allocate, Copy, Clear, Load, Store, Put, Get, LoadGlobal, StoreGlobal, Start, ScanStack, ScanGlobals, MarkStep, Finish, SweepStep}
 use Rattle.lines.specs.declared.Line.{Line}
 use Rattle.lines.specs.declared.Line.the-variants.{Bad, Setup, Call}
 use Rattle.lines.specs.declared.Numbers.{Numbers}
@@ -84,10 +84,14 @@ lineOf b n =
     else if b == 69 then when (n .0 == 0) (Call SweepStep)
     else Bad
 
--- "lines of at most 80 bytes before the line feed: one letter, then numbers"
+-- "lines of at most 80 bytes before the line feed"
+abbrev pub longestLine : ℕ
+longestLine = 80
+
+-- ".. one letter, then numbers"
 unfoldable pub readLine : List ℕ → Line
 readLine [] = Bad
-readLine (b ∷ bs) = if length (b ∷ bs) ≤? 80 then lineOf b (numbersOf bs) else Bad
+readLine (b ∷ bs) = if length (b ∷ bs) ≤? longestLine then lineOf b (numbersOf bs) else Bad
 
 -- what the reader's parts promise: a digit's value, 10 for any other byte
 abbrev pub digitOf : ℕ → ℕ

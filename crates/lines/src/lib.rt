@@ -5,8 +5,8 @@ ghost use Prim.Native.Nat.{_≤_, _<_};
 ghost use lib.ListN.{length, drop};
 ghost use Rattle.lines.specs.Lines.{digitOf, digits, numbersOf, lineOf, when, readLine, Reads};
 
-// A call on the heap, with its numbers in the order of the line.
-pub enum Call {
+// The call that a line asks for, with its numbers in the order of the line.
+pub enum LineCall {
     Open(u64),
     Close(u64),
     Allocate(u64, u64, u64, u64),
@@ -30,7 +30,7 @@ pub enum Call {
 pub enum Line {
     Bad,
     Setup(u64),
-    Call(Call),
+    Call(LineCall),
 }
 
 // The numbers of a line: how many there are, and the numbers, 0 past the last. Where the line does
@@ -160,23 +160,26 @@ fn line_of(b: u8, n: Numbers) -> Line
     let count = n.0;
     match b {
         b'H' => line_when(count == 1, Line::Setup(n.1)),
-        b'O' => line_when(count == 1, Line::Call(Call::Open(n.1))),
-        b'C' => line_when(count == 1, Line::Call(Call::Close(n.1))),
-        b'A' => line_when(count == 4, Line::Call(Call::Allocate(n.1, n.2, n.3, n.4))),
-        b'M' => line_when(count == 3, Line::Call(Call::Copy(n.1, n.2, n.3))),
-        b'Z' => line_when(count == 2, Line::Call(Call::Clear(n.1, n.2))),
-        b'L' => line_when(count == 4, Line::Call(Call::Load(n.1, n.2, n.3, n.4))),
-        b'S' => line_when(count == 4, Line::Call(Call::Store(n.1, n.2, n.3, n.4))),
-        b'W' => line_when(count == 4, Line::Call(Call::Put(n.1, n.2, n.3, n.4))),
-        b'R' => line_when(count == 3, Line::Call(Call::Get(n.1, n.2, n.3))),
-        b'G' => line_when(count == 3, Line::Call(Call::LoadGlobal(n.1, n.2, n.3))),
-        b'P' => line_when(count == 3, Line::Call(Call::StoreGlobal(n.1, n.2, n.3))),
-        b'T' => line_when(count == 0, Line::Call(Call::Start)),
-        b'K' => line_when(count == 1, Line::Call(Call::ScanStack(n.1))),
-        b'Q' => line_when(count == 0, Line::Call(Call::ScanGlobals)),
-        b'N' => line_when(count == 0, Line::Call(Call::MarkStep)),
-        b'F' => line_when(count == 0, Line::Call(Call::Finish)),
-        b'E' => line_when(count == 0, Line::Call(Call::SweepStep)),
+        b'O' => line_when(count == 1, Line::Call(LineCall::Open(n.1))),
+        b'C' => line_when(count == 1, Line::Call(LineCall::Close(n.1))),
+        b'A' => line_when(
+            count == 4,
+            Line::Call(LineCall::Allocate(n.1, n.2, n.3, n.4)),
+        ),
+        b'M' => line_when(count == 3, Line::Call(LineCall::Copy(n.1, n.2, n.3))),
+        b'Z' => line_when(count == 2, Line::Call(LineCall::Clear(n.1, n.2))),
+        b'L' => line_when(count == 4, Line::Call(LineCall::Load(n.1, n.2, n.3, n.4))),
+        b'S' => line_when(count == 4, Line::Call(LineCall::Store(n.1, n.2, n.3, n.4))),
+        b'W' => line_when(count == 4, Line::Call(LineCall::Put(n.1, n.2, n.3, n.4))),
+        b'R' => line_when(count == 3, Line::Call(LineCall::Get(n.1, n.2, n.3))),
+        b'G' => line_when(count == 3, Line::Call(LineCall::LoadGlobal(n.1, n.2, n.3))),
+        b'P' => line_when(count == 3, Line::Call(LineCall::StoreGlobal(n.1, n.2, n.3))),
+        b'T' => line_when(count == 0, Line::Call(LineCall::Start)),
+        b'K' => line_when(count == 1, Line::Call(LineCall::ScanStack(n.1))),
+        b'Q' => line_when(count == 0, Line::Call(LineCall::ScanGlobals)),
+        b'N' => line_when(count == 0, Line::Call(LineCall::MarkStep)),
+        b'F' => line_when(count == 0, Line::Call(LineCall::Finish)),
+        b'E' => line_when(count == 0, Line::Call(LineCall::SweepStep)),
         _ => Line::Bad,
     }
 }

@@ -10,6 +10,7 @@ pub mod Spans
 pub mod Named
 pub mod Facts
 pub mod Audit
+pub mod Lent
 pub mod Checks
 pub mod Shading
 pub mod Outcomes

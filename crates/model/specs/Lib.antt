@@ -15,5 +15,6 @@ pub mod Records
 pub mod Cycle
 pub mod Audit
 pub mod Facts
+pub mod Lent
 pub mod Calls
 pub mod Cases

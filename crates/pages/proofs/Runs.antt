@@ -11,14 +11,14 @@ use Rattle.model.specs.Allocate.{runLength, isRun, bestRun}
 use Rattle.model.proofs.Tests.{clash}
 use Rattle.pages.proofs.Allocate.{run-within, run-free, run-end, best-is}
 
--- no free page stands before page g
-abbrev pub Fresh : List ℕ → ℕ → Type 0
-Fresh t g = (eqb g 0 || not (isFree t (g - 1))) ≡ true
+-- a run of free pages may start at page g: no free page stands before it
+abbrev pub RunMayStart : List ℕ → ℕ → Type 0
+RunMayStart t g = (eqb g 0 || not (isFree t (g - 1))) ≡ true
 
 -- of the runs of at least n pages that start below page g, the lowest of the shortest starts at `best` and has `least` pages;
 -- `best` is p where there is none
 pub record SoFar (p : ℕ) (t : List ℕ) (n g best least : ℕ) : Type 0 where
-  pub fresh : g < p → Fresh t g
+  pub fresh : g < p → RunMayStart t g
   pub cap : best ≤ p
   pub low : (k : ℕ) → k < g → isRun p t n k ≡ true → least ≤ runLength p t k
   pub found : best < p → (best < g) × (isRun p t n best ≡ true) × (runLength p t best ≡ least)
@@ -32,7 +32,7 @@ module _ (p : ℕ) (t : List ℕ) (n : ℕ) where
   -- at page g, before which there is no free page
   module _ (g : ℕ) where
     -- a run starts there, if it is long enough
-    starts : Fresh t g → 0 < n → n ≤ runLength p t g → isRun p t n g ≡ true
+    starts : RunMayStart t g → 0 < n → n ≤ runLength p t g → isRun p t n g ≡ true
     unfolding isRun
     starts f h l = rw (run-free p t g g (omega arith) (omega arith), f, le-leb n (runLength p t g) l)
 
@@ -46,7 +46,7 @@ module _ (p : ℕ) (t : List ℕ) (n : ℕ) where
     further k h l = rw (run-free p t g (k - 1) (omega arith) (omega arith), ne-eqb k 0 (omega arith), and-false (isFree t k))
 
     -- no free page stands before the page after that
-    next : g + runLength p t g + 1 < p → Fresh t (g + runLength p t g + 1)
+    next : g + runLength p t g + 1 < p → RunMayStart t (g + runLength p t g + 1)
     next l =
         let e : g + runLength p t g + 1 - 1 ≡ g + runLength p t g = omega arith in
         rw (ne-eqb (g + runLength p t g + 1) 0 (omega arith), e, run-end p t g (omega arith))

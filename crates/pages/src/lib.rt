@@ -2,11 +2,12 @@
 // the page's span, the span's page count and its kind. The numbers of an entry, the span of a page
 // and of a word, and the best run of free pages. Crate span_entries writes the table.
 ghost use mathlib.Core.Path.{_≡_};
-ghost use Prim.Native.Nat.{_+_, _-_, _*_, _<_, _≤_};
+ghost use Prim.Native.Nat.{_-_, _<_, _≤_};
 ghost use lib.ListN.{length, getD};
-ghost use Rattle.model.specs.Memory.{entryNumbers, pageOf};
+ghost use Rattle.model.specs.Memory.{pageOf};
 ghost use Rattle.model.specs.Spans.{owner, pageCount, kindEntry, spanOf};
 ghost use Rattle.model.specs.Allocate.{runLength, bestRun};
+ghost use Rattle.model.specs.Lent.{PageTable, HasEntry};
 use units::ENTRY_NUMBERS;
 use units::PAGE_WORDS;
 
@@ -31,7 +32,7 @@ fn number(table: &[u32], i: usize) -> usize
 
 // The start page + 1 of the span that page g belongs to, 0 for a free page.
 pub fn owner(table: &[u32], g: usize) -> usize
-    requires { ⌜ entryNumbers * g + 2 < length (now table) ⌝ }
+    requires { ⌜ HasEntry (now table) g ⌝ }
     ensures { λ r. ⌜ r ≡ owner (now (table .entry)) g ⌝ }
 {
     number(table, ENTRY_NUMBERS * g)
@@ -39,7 +40,7 @@ pub fn owner(table: &[u32], g: usize) -> usize
 
 // The page count in page g's entry.
 pub fn page_count(table: &[u32], g: usize) -> usize
-    requires { ⌜ entryNumbers * g + 2 < length (now table) ⌝ }
+    requires { ⌜ HasEntry (now table) g ⌝ }
     ensures { λ r. ⌜ r ≡ pageCount (now (table .entry)) g ⌝ }
 {
     number(table, ENTRY_NUMBERS * g + COUNT)
@@ -47,7 +48,7 @@ pub fn page_count(table: &[u32], g: usize) -> usize
 
 // The kind in page g's entry, with the unswept flag.
 pub fn kind_entry(table: &[u32], g: usize) -> usize
-    requires { ⌜ entryNumbers * g + 2 < length (now table) ⌝ }
+    requires { ⌜ HasEntry (now table) g ⌝ }
     ensures { λ r. ⌜ r ≡ kindEntry (now (table .entry)) g ⌝ }
 {
     number(table, ENTRY_NUMBERS * g + KIND)
@@ -55,7 +56,7 @@ pub fn kind_entry(table: &[u32], g: usize) -> usize
 
 // The start page of the span that page g belongs to, 0 for a free page.
 pub fn span_of_page(table: &[u32], g: usize) -> usize
-    requires { ⌜ entryNumbers * g + 2 < length (now table) ⌝ }
+    requires { ⌜ HasEntry (now table) g ⌝ }
     ensures { λ r. ⌜ r ≡ owner (now (table .entry)) g - 1 ⌝ }
 {
     let first = owner(table, g);
@@ -67,7 +68,7 @@ pub fn span_of_page(table: &[u32], g: usize) -> usize
 
 // The start page of the span that arena word w lies in.
 pub fn span_of_word(table: &[u32], w: usize) -> usize
-    requires { ⌜ entryNumbers * pageOf w + 2 < length (now table) ⌝ }
+    requires { ⌜ HasEntry (now table) (pageOf w) ⌝ }
     ensures { λ r. ⌜ r ≡ spanOf (now (table .entry)) w ⌝ }
 {
     span_of_page(table, w / PAGE_WORDS)
@@ -75,7 +76,7 @@ pub fn span_of_word(table: &[u32], w: usize) -> usize
 
 // How many pages from page g on are free, up to the first that is not.
 fn run_length(p: usize, table: &[u32], g: usize) -> usize
-    requires { ⌜ (length (now table) ≡ entryNumbers * p) × (g ≤ p) ⌝ }
+    requires { ⌜ PageTable p (now table) × (g ≤ p) ⌝ }
     ensures { λ r. ⌜ r ≡ runLength p (now (table .entry)) g ⌝ }
 {
     let mut k = g;
@@ -92,7 +93,7 @@ fn run_length(p: usize, table: &[u32], g: usize) -> usize
 // p. In the loop no free page stands before page g. One turn passes g's run and the page that ends
 // it, so each page is read once.
 pub fn best_run(p: usize, table: &[u32], n: usize) -> usize
-    requires { ⌜ (length (now table) ≡ entryNumbers * p) × (0 < n) ⌝ }
+    requires { ⌜ PageTable p (now table) × (0 < n) ⌝ }
     ensures { λ r. ⌜ r ≡ bestRun p (now (table .entry)) n ⌝ }
 {
     let mut g = 0;

@@ -1,19 +1,28 @@
 -- What the program keeps true of its memory from one line to the next, so that no index is out of range.
-use Prim.Native.Nat.{ℕ, _≤_}
+use Prim.Native.Nat.{ℕ, _*_, _≤_}
 use mathlib.Core.List.{List}
 use mathlib.Core.Path.{_≡_}
 use lib.ListN.{length}
+use Rattle.model.specs.Memory.{pageWords, bitmapWords}
+use Rattle.model.specs.Lent.{Roots, PageTable}
+use Rattle.lines.specs.Lines.{longestLine}
+use Rattle.trace.specs.Play.{mostPages}
 use Rattle.play.specs.declared.Progress.{Progress}
 
--- the buffers for 8 pages, a line of 80 bytes, and what waits to be written
-pub record Sized (a t b s o : List ℕ) : Type 0 where
-  pub arena : length a ≡ 8192
-  pub table : length t ≡ 24
-  pub bits : length b ≡ 512
-  pub roots : length s ≡ 562
-  pub out : length o ≡ 65536
+-- a large buffer of library io, as a block of input and what waits to be written have
+abbrev pub blockBytes : ℕ
+blockBytes = 65536
 
-pub record Fits (r : Progress) : Type 0 where
-  pub pages : r .pages ≤ 8
-  pub used : r .used ≤ 80
-  pub at : r .at ≤ 65536
+-- the four buffers, for the most pages that a trace can ask for, and what waits to be written
+pub record ProgramMemory (a t b s o : List ℕ) : Type 0 where
+  pub arena : length a ≡ pageWords * mostPages
+  pub table : PageTable mostPages t
+  pub bits : length b ≡ bitmapWords * mostPages
+  pub roots : Roots s
+  pub out : length o ≡ blockBytes
+
+-- how far the run is lies within that memory, and within the line under way
+pub record InRange (r : Progress) : Type 0 where
+  pub pages : r .pages ≤ mostPages
+  pub used : r .used ≤ longestLine
+  pub at : r .at ≤ blockBytes

@@ -3,8 +3,11 @@
 ghost use mathlib.Core.Path.{_≡_};
 ghost use Prim.Native.Nat.{_+_, _≤_};
 ghost use lib.ListN.{length};
+ghost use Rattle.lines.specs.Lines.{longestLine};
 ghost use Rattle.line_buffer.specs.Split.{Short};
-ghost use Rattle.play.specs.Run.{Sized, Fits};
+ghost use Rattle.answers.specs.Text.{longestAnswer};
+ghost use Rattle.trace.specs.Play.{mostPages};
+ghost use Rattle.play.specs.Run.{blockBytes, ProgramMemory, InRange};
 use line_buffer::Taken;
 
 const STDIN: i32 = 0;
@@ -31,9 +34,9 @@ fn play_first(
     line: &[u8],
     at: usize,
 ) -> Progress
-    requires { ⌜ Sized (now arena) (now table) (now bits) (now roots) (now out) ⌝ }
-    requires { ⌜ at + 66 ≤ 65536 ⌝ }
-    ensures { λ r. ⌜ Fits r ⌝ }
+    requires { ⌜ ProgramMemory (now arena) (now table) (now bits) (now roots) (now out) ⌝ }
+    requires { ⌜ at + longestAnswer ≤ blockBytes ⌝ }
+    ensures { λ r. ⌜ InRange r ⌝ }
 {
     let p = trace::pages(line);
     let n = p as usize;
@@ -70,9 +73,9 @@ fn play_later(
     number: u64,
     at: usize,
 ) -> Progress
-    requires { ⌜ Sized (now arena) (now table) (now bits) (now roots) (now out) ⌝ }
-    requires { ⌜ (p ≤ 8) × (at + 66 ≤ 65536) ⌝ }
-    ensures { λ r. ⌜ Fits r ⌝ }
+    requires { ⌜ ProgramMemory (now arena) (now table) (now bits) (now roots) (now out) ⌝ }
+    requires { ⌜ (p ≤ mostPages) × (at + longestAnswer ≤ blockBytes) ⌝ }
+    ensures { λ r. ⌜ InRange r ⌝ }
 {
     let n = p as usize;
     let words = units::PAGE_WORDS * n;
@@ -100,8 +103,8 @@ fn play_later(
 
 // Room for one more line of output: what waits is written where it has to be.
 fn room(out: &[u8], at: usize) -> usize
-    requires { ⌜ (at ≤ 65536) × (length (now out) ≡ 65536) ⌝ }
-    ensures { λ r. ⌜ r + 66 ≤ 65536 ⌝ }
+    requires { ⌜ (at ≤ blockBytes) × (length (now out) ≡ blockBytes) ⌝ }
+    ensures { λ r. ⌜ r + longestAnswer ≤ blockBytes ⌝ }
 {
     if at + answers::LONGEST <= out.len() {
         return at;
@@ -120,9 +123,9 @@ fn play_line(
     line: &[u8],
     run: Progress,
 ) -> Progress
-    requires { ⌜ Sized (now arena) (now table) (now bits) (now roots) (now out) ⌝ }
-    requires { ⌜ Fits run ⌝ }
-    ensures { λ r. ⌜ Fits r ⌝ }
+    requires { ⌜ ProgramMemory (now arena) (now table) (now bits) (now roots) (now out) ⌝ }
+    requires { ⌜ InRange run ⌝ }
+    ensures { λ r. ⌜ InRange r ⌝ }
 {
     let at = room(out, run.at);
     if run.lines == 0 {
@@ -134,7 +137,7 @@ fn play_line(
 
 // Before the first line.
 fn begun() -> Progress
-    ensures { λ r. ⌜ Fits r ⌝ }
+    ensures { λ r. ⌜ InRange r ⌝ }
 {
     Progress {
         pages: 0,
@@ -147,8 +150,8 @@ fn begun() -> Progress
 
 // The run with so many bytes of the line under way.
 fn paused(run: Progress, used: usize, more: bool) -> Progress
-    requires { ⌜ (Fits run) × (used ≤ 80) ⌝ }
-    ensures { λ r. ⌜ Fits r ⌝ }
+    requires { ⌜ InRange run × (used ≤ longestLine) ⌝ }
+    ensures { λ r. ⌜ InRange r ⌝ }
 {
     Progress {
         pages: run.pages,
@@ -162,8 +165,8 @@ fn paused(run: Progress, used: usize, more: bool) -> Progress
 // What is left of a block behind its last line: the line under way, or one that is too long, which
 // ends the run.
 fn left_over(run: Progress, taken: Taken) -> Progress
-    requires { ⌜ (Fits run) × Short taken ⌝ }
-    ensures { λ r. ⌜ Fits r ⌝ }
+    requires { ⌜ InRange run × Short taken ⌝ }
+    ensures { λ r. ⌜ InRange r ⌝ }
 {
     match taken {
         Taken::Line(_, _) => run,
@@ -183,9 +186,9 @@ fn feed(
     block: &[u8],
     from: Progress,
 ) -> Progress
-    requires { ⌜ Sized (now arena) (now table) (now bits) (now roots) (now out) ⌝ }
-    requires { ⌜ (Fits from) × (length (now line) ≡ 80) ⌝ }
-    ensures { λ r. ⌜ Fits r ⌝ }
+    requires { ⌜ ProgramMemory (now arena) (now table) (now bits) (now roots) (now out) ⌝ }
+    requires { ⌜ InRange from × (length (now line) ≡ longestLine) ⌝ }
+    ensures { λ r. ⌜ InRange r ⌝ }
 {
     let mut run = from;
     let mut used = from.used;
@@ -204,8 +207,8 @@ fn feed(
 
 // What waits is written.
 fn flushed(out: &[u8], run: Progress) -> Progress
-    requires { ⌜ (Fits run) × (length (now out) ≡ 65536) ⌝ }
-    ensures { λ r. ⌜ Fits r ⌝ }
+    requires { ⌜ InRange run × (length (now out) ≡ blockBytes) ⌝ }
+    ensures { λ r. ⌜ InRange r ⌝ }
 {
     let at = run.at;
     io::write_all(STDOUT, &out[..at]);
@@ -221,7 +224,7 @@ fn flushed(out: &[u8], run: Progress) -> Progress
 // The end of the run: what waits is written. A line under way does not read, nor does an input with
 // no line at all.
 fn end(out: &mut [u8], run: Progress)
-    requires { ⌜ (Fits run) × (length (now out) ≡ 65536) ⌝ }
+    requires { ⌜ InRange run × (length (now out) ≡ blockBytes) ⌝ }
 {
     let at = run.at;
     io::write_all(STDOUT, &out[..at]);

@@ -5,16 +5,18 @@ use mathlib.Core.List.{List}
 use mathlib.Core.Path.{_≡_, sym, _∙_}
 use native.Mathlib.Omega.{arith}
 use lib.ListN.{length, getD}
-use Rattle.model.specs.Memory.{Heap, slot, slotAt, word, stackCount, slotCount, firstState, rootWords, pageWords}
+use Rattle.model.specs.Memory.{Heap, slot, slotAt, word, stackCount, slotCount, firstState, pageWords, maxPages}
 use Rattle.model.specs.Spans.{elementWords, spanOf, isPointer}
 use Rattle.model.specs.Checks.{pointerRefusal, numberRefusal, recordAt}
 use Rattle.model.proofs.Bounded.{first-props}
 use Rattle.model.proofs.Checks.{PointerField, pointer-passed, number-passed}
 use Rattle.model.specs.Facts.{Audited}
+use Rattle.model.specs.Lent.{Roots}
 use Rattle.model.proofs.Named.{named}
 use Rattle.model.proofs.Facts.{pointer-word}
+use Rattle.model.proofs.Lent.{audited-tables, consistent-tables}
 use Rattle.shading.specs.Needs.{Stored}
-use Rattle.shading.proofs.References.{reference-named, audited-tables}
+use Rattle.shading.proofs.References.{reference-named}
 use Rattle.fields.specs.Needs.{Field, Rooted}
 use Rattle.fields.proofs.Fields.{fits, slot-record, rooted}
 
@@ -23,13 +25,13 @@ pub record Access (h : Heap) (s i j f : ℕ) : Type 0 where
   pub stack : s < stackCount
   pub other : i < slotCount
   pub slot : j < slotCount
-  pub long : length (h .roots) ≡ rootWords
+  pub roots : Roots (h .roots)
   pub inside : recordAt h s j + f < length (h .arena)
-  pub high : recordAt h s j + f < 262144
+  pub high : recordAt h s j + f < pageWords * maxPages
 
 -- .. as `field_at` asks
 pub field : {h : Heap} {s i j f : ℕ} → Access h s i j f → Field (h .roots) s j f
-field A = record { roots = A .long; stack = A .stack; slot = A .slot; word = A .high }
+field A = record { roots = A .roots; stack = A .stack; slot = A .slot; word = A .high }
 
 module _ {h : Heap} (A : Audited h) (s i j f : ℕ) {n : ℕ} (e : n ≡ pointerRefusal h s i j f) (z : n ≡ 0) where
   passed : PointerField h s i j f
@@ -44,7 +46,7 @@ module _ {h : Heap} (A : Audited h) (s i j f : ℕ) {n : ℕ} (e : n ≡ pointer
       let w = fits (slot-record (rooted A) (slotAt s j) in-slots (P .named)) in
       let l = first-props (elementWords (h .table) (spanOf (h .table) (recordAt h s j))) (λ k. not (isPointer h (recordAt h s j + k))) .within in
       let x : recordAt h s j + f < pageWords * h .pages = omega (arith, P .field) in
-      record { stack = P .stack .below; other = P .other; slot = P .slot; long = A .sized .roots; inside = omega (arith, A .sized .arena); high = omega (arith, A .sized .high) }
+      record { stack = P .stack .below; other = P .other; slot = P .slot; roots = A .sized .roots; inside = omega (arith, A .sized .arena); high = omega (arith, A .sized .high) }
 
   -- the old value of the field and slot i may be shaded
   pub pointer-stored : Stored (h .pages) (h .table) (h .bits) (h .roots) (word h (recordAt h s j + f)) (slot h s i)
@@ -66,14 +68,15 @@ number-access {h} A s j f e z =
     let P = number-passed h s j f (sym e ∙ z) in
     let w = fits (slot-record (rooted A) (slotAt s j) (omega (arith, P .stack .below, P .slot)) (P .named)) in
     let x : recordAt h s j + f < pageWords * h .pages = omega (arith, P .high) in
-    record { stack = P .stack .below; other = P .slot; slot = P .slot; long = A .sized .roots; inside = omega (arith, A .sized .arena); high = omega (arith, A .sized .high) }
+    record { stack = P .stack .below; other = P .slot; slot = P .slot; roots = A .sized .roots; inside = omega (arith, A .sized .arena); high = omega (arith, A .sized .high) }
 
 -- two roots that are references, as the barrier asks
 pub roots-stored : {p : ℕ} {t b r : List ℕ} → Rooted p t b r → (x y : ℕ) → x < firstState → y < firstState → Stored p t b r (getD r x 0) (getD r y 0)
 roots-stored {p} {t} {b} {r} R x y k l =
+    let C = R .consistent in
     record {
-      tables = R .tables;
-      roots = R .long;
-      oldNamed = reference-named (R .spans) (R .bits) (getD r x 0) (R .named x k);
-      newNamed = reference-named (R .spans) (R .bits) (getD r y 0) (R .named y l);
+      tables = consistent-tables C;
+      roots = R .roots;
+      oldNamed = reference-named (C .spans) (C .rules) (getD r x 0) (R .references x k);
+      newNamed = reference-named (C .spans) (C .rules) (getD r y 0) (R .references y l);
     }

@@ -1,12 +1,11 @@
 // The calls on records: a pointer word is loaded into a slot or stored from one, a number is put or
 // got; and a slot is stored to a global, which has the barrier too. Each asks the function that
 // gives its refusal, 0 where there is none, and then does its work. They are taken after the audit.
-ghost use mathlib.Core.List.{List};
-ghost use Prim.Native.Nat.{ℕ};
 ghost use Rattle.model.specs.Memory.{lent};
 ghost use Rattle.model.specs.Answers.{Meets};
 ghost use Rattle.model.specs.Records.{load, store, put, get, storeGlobal};
 ghost use Rattle.model.specs.Facts.{Audited};
+ghost use Rattle.model.specs.Lent.{MeetsWithoutArena};
 ghost use Rattle.fields.specs.Needs.{Rooted};
 use model::Answer;
 
@@ -23,7 +22,10 @@ pub fn load(
     f: u64,
 ) -> Answer
     requires { ⌜ Audited (lent p (now arena) (now table) (now bits) (now roots)) ⌝ }
-    ensures { λ r. ⌜ Meets (load (lent p (now (arena .entry)) (now (table .entry)) (now (bits .entry)) (now (roots .entry))) s i j f) r (now (arena .entry)) (now (table .entry)) (now (bits .entry)) (now (roots .exit)) ⌝ }
+    ensures { λ r. ⌜
+        Meets
+        (load (lent p (now (arena .entry)) (now (table .entry)) (now (bits .entry)) (now (roots .entry))) s i j f)
+        r (now (arena .entry)) (now (table .entry)) (now (bits .entry)) (now (roots .exit)) ⌝ }
 {
     let n = fields::pointer_refusal(p, table, bits, roots, s, i, j, f);
     if n != 0 {
@@ -49,7 +51,10 @@ pub fn store(
     k: u64,
 ) -> Answer
     requires { ⌜ Audited (lent p (now arena) (now table) (now bits) (now roots)) ⌝ }
-    ensures { λ r. ⌜ Meets (store (lent p (now (arena .entry)) (now (table .entry)) (now (bits .entry)) (now (roots .entry))) s j f k) r (now (arena .exit)) (now (table .entry)) (now (bits .exit)) (now (roots .entry)) ⌝ }
+    ensures { λ r. ⌜
+        Meets
+        (store (lent p (now (arena .entry)) (now (table .entry)) (now (bits .entry)) (now (roots .entry))) s j f k)
+        r (now (arena .exit)) (now (table .entry)) (now (bits .exit)) (now (roots .entry)) ⌝ }
 {
     let n = fields::pointer_refusal(p, table, bits, roots, s, k, j, f);
     if n != 0 {
@@ -77,7 +82,10 @@ pub fn put(
     v: u64,
 ) -> Answer
     requires { ⌜ Audited (lent p (now arena) (now table) (now bits) (now roots)) ⌝ }
-    ensures { λ r. ⌜ Meets (put (lent p (now (arena .entry)) (now (table .entry)) (now (bits .entry)) (now (roots .entry))) s j f v) r (now (arena .exit)) (now (table .entry)) (now (bits .entry)) (now (roots .entry)) ⌝ }
+    ensures { λ r. ⌜
+        Meets
+        (put (lent p (now (arena .entry)) (now (table .entry)) (now (bits .entry)) (now (roots .entry))) s j f v)
+        r (now (arena .exit)) (now (table .entry)) (now (bits .entry)) (now (roots .entry)) ⌝ }
 {
     let n = fields::number_refusal(p, table, bits, roots, s, j, f);
     if n != 0 {
@@ -100,7 +108,10 @@ pub fn get(
     f: u64,
 ) -> Answer
     requires { ⌜ Audited (lent p (now arena) (now table) (now bits) (now roots)) ⌝ }
-    ensures { λ r. ⌜ Meets (get (lent p (now (arena .entry)) (now (table .entry)) (now (bits .entry)) (now (roots .entry))) s j f) r (now (arena .entry)) (now (table .entry)) (now (bits .entry)) (now (roots .entry)) ⌝ }
+    ensures { λ r. ⌜
+        Meets
+        (get (lent p (now (arena .entry)) (now (table .entry)) (now (bits .entry)) (now (roots .entry))) s j f)
+        r (now (arena .entry)) (now (table .entry)) (now (bits .entry)) (now (roots .entry)) ⌝ }
 {
     let n = fields::number_refusal(p, table, bits, roots, s, j, f);
     if n != 0 {
@@ -122,7 +133,9 @@ pub fn store_global(
     i: u64,
 ) -> Answer
     requires { ⌜ Rooted p (now table) (now bits) (now roots) ⌝ }
-    ensures { λ r. ⌜ ((a : List ℕ) → Meets (storeGlobal (lent p a (now (table .entry)) (now (bits .entry)) (now (roots .entry))) s g i) r a (now (table .entry)) (now (bits .exit)) (now (roots .exit))) ⌝ }
+    ensures { λ r. ⌜
+        MeetsWithoutArena (λ h. storeGlobal h s g i) p (now (table .entry)) (now (bits .entry)) (now (roots .entry)) r
+        (now (table .entry)) (now (bits .exit)) (now (roots .exit)) ⌝ }
 {
     let n = root_checks::global_refusal(roots, s, i, g);
     if n != 0 {

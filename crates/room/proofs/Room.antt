@@ -20,7 +20,8 @@ use Rattle.model.specs.Facts.{IsSpan}
 use Rattle.model.proofs.Spans.{element-fits}
 use Rattle.model.proofs.Checks.{passes}
 use Rattle.model.proofs.Classes.{size-fits}
-use Rattle.spans.specs.Needs.{Searchable, Span}
+use Rattle.model.specs.Lent.{Mapped, MappedSpan}
+use Rattle.model.proofs.Lent.{mapped-span}
 use Rattle.room.specs.Needs.{Found}
 
 -- a refusal leaves the word open
@@ -62,9 +63,9 @@ module _ (h : Heap) (kind n : ℕ) where
       some false z = omega arith
 
 -- The span s that was found, its free element k, and the words m of an element: `found-at` is the place, and the element lies in the arena.
-module _ {p : ℕ} {t b : List ℕ} (a o : List ℕ) (kind : ℕ) (X : Searchable p t b) {s : ℕ} (e : s ≡ spanWithRoom (lent p a t b o) kind) (l : s < p) where
-  pub span-there : Span p t b s
-  span-there = record { searchable = X; first = rw e (span-found (lent p a t b o) kind (rw e at l) .span) }
+module _ {p : ℕ} {t b : List ℕ} (a o : List ℕ) (kind : ℕ) (X : Mapped p t b) {s : ℕ} (e : s ≡ spanWithRoom (lent p a t b o) kind) (l : s < p) where
+  pub span-there : MappedSpan p t b s
+  span-there = mapped-span X s (rw e (span-found (lent p a t b o) kind (rw e at l) .span))
 
   pub place-inside : {k m : ℕ} → k ≡ freeElement (lent p a t b o) s → m ≡ elementWords t s → (pageWords * s + k * m + m ≤ pageWords * p) × (p ≤ maxPages)
   place-inside {k} {m} f g =

@@ -4,10 +4,9 @@
 // they need the roots' length.
 ghost use mathlib.Core.Path.{_≡_};
 ghost use Prim.Native.Nat.{_<_};
-ghost use lib.ListN.{length};
-ghost use Rattle.model.specs.Memory.{rootWords, stackCount, slotCount, slotAt};
+ghost use Rattle.model.specs.Memory.{stackCount, slotCount, slotAt};
 ghost use Rattle.model.specs.Checks.{openRefusal, closedRefusal, slotRefusal, slotsRefusal, globalRefusal};
-ghost use Rattle.root_checks.specs.OnRoots.{Tests};
+ghost use Rattle.model.specs.Lent.{Roots, NumberByRoots};
 
 // The limits, as the calls' numbers are compared with them.
 const STACKS: u64 = units::STACKS as u64;
@@ -26,8 +25,8 @@ pub fn slot_at(s: u64, i: u64) -> usize
 
 // The refusal of a call on a stack that must be open.
 pub fn not_open(roots: &[u64], s: u64) -> u64
-    requires { ⌜ length (now roots) ≡ rootWords ⌝ }
-    ensures { λ r. ⌜ Tests (λ h. openRefusal h s) (now (roots .entry)) r ⌝ }
+    requires { ⌜ Roots (now roots) ⌝ }
+    ensures { λ r. ⌜ NumberByRoots (λ h. openRefusal h s) (now (roots .entry)) r ⌝ }
 {
     if STACKS <= s {
         return units::BAD_STACK;
@@ -40,8 +39,8 @@ pub fn not_open(roots: &[u64], s: u64) -> u64
 
 // The refusal of a call on a stack that must be closed.
 pub fn not_closed(roots: &[u64], s: u64) -> u64
-    requires { ⌜ length (now roots) ≡ rootWords ⌝ }
-    ensures { λ r. ⌜ Tests (λ h. closedRefusal h s) (now (roots .entry)) r ⌝ }
+    requires { ⌜ Roots (now roots) ⌝ }
+    ensures { λ r. ⌜ NumberByRoots (λ h. closedRefusal h s) (now (roots .entry)) r ⌝ }
 {
     if STACKS <= s {
         return units::BAD_STACK;
@@ -54,8 +53,8 @@ pub fn not_closed(roots: &[u64], s: u64) -> u64
 
 // The refusal of a call on slot i of stack s.
 pub fn slot_refusal(roots: &[u64], s: u64, i: u64) -> u64
-    requires { ⌜ length (now roots) ≡ rootWords ⌝ }
-    ensures { λ r. ⌜ Tests (λ h. slotRefusal h s i) (now (roots .entry)) r ⌝ }
+    requires { ⌜ Roots (now roots) ⌝ }
+    ensures { λ r. ⌜ NumberByRoots (λ h. slotRefusal h s i) (now (roots .entry)) r ⌝ }
 {
     let stack = not_open(roots, s);
     if stack != 0 {
@@ -69,8 +68,8 @@ pub fn slot_refusal(roots: &[u64], s: u64, i: u64) -> u64
 
 // The refusal of a call on slots i and j of stack s.
 pub fn slots_refusal(roots: &[u64], s: u64, i: u64, j: u64) -> u64
-    requires { ⌜ length (now roots) ≡ rootWords ⌝ }
-    ensures { λ r. ⌜ Tests (λ h. slotsRefusal h s i j) (now (roots .entry)) r ⌝ }
+    requires { ⌜ Roots (now roots) ⌝ }
+    ensures { λ r. ⌜ NumberByRoots (λ h. slotsRefusal h s i j) (now (roots .entry)) r ⌝ }
 {
     let first = slot_refusal(roots, s, i);
     if first != 0 {
@@ -81,8 +80,8 @@ pub fn slots_refusal(roots: &[u64], s: u64, i: u64, j: u64) -> u64
 
 // The refusal of a call on slot i of stack s and global g.
 pub fn global_refusal(roots: &[u64], s: u64, i: u64, g: u64) -> u64
-    requires { ⌜ length (now roots) ≡ rootWords ⌝ }
-    ensures { λ r. ⌜ Tests (λ h. globalRefusal h s i g) (now (roots .entry)) r ⌝ }
+    requires { ⌜ Roots (now roots) ⌝ }
+    ensures { λ r. ⌜ NumberByRoots (λ h. globalRefusal h s i g) (now (roots .entry)) r ⌝ }
 {
     let slot = slot_refusal(roots, s, i);
     if slot != 0 {

@@ -1,19 +1,20 @@
--- What may be shaded in audited buffers: every reference.
-use Prim.Native.Nat.{ℕ, _-_, _/_}
+-- What may be shaded: in audited buffers every reference; of the values of a slice also fewer.
+use Prim.Native.Nat.{ℕ, _/_, _≤_}
 use mathlib.Core.List.{List}
 use mathlib.Core.Logic.{_≢_}
 use native.Mathlib.Omega.{arith}
-use Rattle.model.specs.Memory.{Heap, wordOf, pageWords}
-use Rattle.model.specs.Facts.{Spans, Audited, Bits, Reference}
+use Rattle.model.specs.Memory.{wordOf, pageWords}
+use Rattle.model.specs.Facts.{Spans, Bits, Reference}
 use Rattle.model.proofs.Named.{named}
-use Rattle.shading.specs.Needs.{Tables, Named}
+use Rattle.shading.specs.Needs.{NamesRecord, ShadableSlice}
 
 -- a reference that is not nil names a record
-pub reference-named : {p : ℕ} {t b : List ℕ} → Spans p t → Bits p t b → (v : ℕ) → Reference p t b v → v ≢ 0 → Named p t v
+pub reference-named : {p : ℕ} {t b : List ℕ} → Spans p t → Bits p t b → (v : ℕ) → Reference p t b v → v ≢ 0 → NamesRecord p t v
 reference-named F C v r d =
     let n = named C v d r in
     let s = F .whose (wordOf v / pageWords) (C .element (wordOf v) (n .0) .lies .used) in
     record { word = n .2; span = omega (arith, s .1, n .2) }
 
-pub audited-tables : {h : Heap} → Audited h → Tables (h .pages) (h .table) (h .bits)
-audited-tables A = record { high = A .sized .high; table = A .sized .table; bits = A .sized .bits }
+-- fewer values
+pub slice-fewer : {p : ℕ} {t b words : List ℕ} {from m n : ℕ} → ShadableSlice p t b words from m → n ≤ m → ShadableSlice p t b words from n
+slice-fewer E l = record { tables = E .tables; inside = omega (arith, E .inside); each = λ i h. E .each i (omega arith) }

@@ -9,13 +9,13 @@ use native.Mathlib.Omega.{arith}
 use lib.Dec.{eqb}
 use lib.ListN.{getD}
 use borrow.Author.Tests.{eq-eqb, ne-eqb, lt-ltb}
-use Rattle.model.specs.Memory.{wordOf, lent, phaseAt, pageWords}
+use Rattle.model.specs.Memory.{wordOf, lent, phaseAt, mark, pageWords}
 use Rattle.model.specs.Bitmaps.{bitAt, withBit, bitIn, putBit, marked}
 use Rattle.model.specs.Spans.{isScan, spanOf}
 use Rattle.model.specs.Shading.{isWhite, shade, shadeAll, shadeCount, barrier}
 use Rattle.model.proofs.Bounded.{count-none, count-step}
 use Rattle.model.proofs.Shading.{all-zero, all-suc}
-use Rattle.shading.specs.Needs.{Named, Shades, ShadesAll}
+use Rattle.shading.specs.Needs.{NamesRecord, Shades, ShadesAll}
 
 -- what is not white stays
 black : (p : ℕ) (t : List ℕ) (v : ℕ) (b : List ℕ) → isWhite p t v b ≡ false → Shades p t v b 0 b
@@ -25,7 +25,7 @@ black p t v b e = record { count = rw e; bits = rw e }
 pub nil-shades : (p : ℕ) (t : List ℕ) (v : ℕ) (b : List ℕ) → v ≡ 0 → Shades p t v b 0 b
 nil-shades p t v b e = black p t v b (rw (eq-eqb v 0 e))
 
-module _ (p : ℕ) (t : List ℕ) (v : ℕ) (b : List ℕ) (named : Named p t v) {w : ℕ} (e : w ≡ wordOf v) where
+module _ (p : ℕ) (t : List ℕ) (v : ℕ) (b : List ℕ) (named : NamesRecord p t v) {w : ℕ} (e : w ≡ wordOf v) where
   white-is : (m : Bool) → bitAt b (pageWords * p + w) ≡ m → bitIn (pageWords * p) marked b (wordOf v) ≡ m
   unfolding bitIn
   white-is m x = rw (← e) (rw (lt-ltb w (pageWords * p) (omega (arith, named .word))) x)
@@ -44,13 +44,13 @@ module _ (p : ℕ) (t : List ℕ) (v : ℕ) (b : List ℕ) (named : Named p t v)
   scan-shades d x s f g = record { count = rw (ne-eqb v 0 d, white-is false x); bits = rw (ne-eqb v 0 d, white-is false x, ← e, s, g, f) }
 
 -- the barrier outside the mark phase, and in it
-pub no-barrier : (p : ℕ) (a t b r : List ℕ) (old new : ℕ) → getD r phaseAt 0 ≢ 1 → b ≡ barrier (lent p a t b r) old new
+pub no-barrier : (p : ℕ) (a t b r : List ℕ) (old new : ℕ) → getD r phaseAt 0 ≢ mark → b ≡ barrier (lent p a t b r) old new
 unfolding barrier
-no-barrier p a t b r old new d = rw (ne-eqb (getD r phaseAt 0) 1 d)
+no-barrier p a t b r old new d = rw (ne-eqb (getD r phaseAt 0) mark d)
 
-pub shaded-both : (p : ℕ) (a t b r : List ℕ) (old new : ℕ) → getD r phaseAt 0 ≡ 1 → {m n : ℕ} {x y : List ℕ} → Shades p t old b m x → Shades p t new x n y → y ≡ barrier (lent p a t b r) old new
+pub shaded-both : (p : ℕ) (a t b r : List ℕ) (old new : ℕ) → getD r phaseAt 0 ≡ mark → {m n : ℕ} {x y : List ℕ} → Shades p t old b m x → Shades p t new x n y → y ≡ barrier (lent p a t b r) old new
 unfolding barrier
-shaded-both p a t b r old new e f g = rw (eq-eqb (getD r phaseAt 0) 1 e, ← f .bits) (g .bits)
+shaded-both p a t b r old new e f g = rw (eq-eqb (getD r phaseAt 0) mark e, ← f .bits) (g .bits)
 
 -- at most one mark turns on
 pub at-most-one : {p : ℕ} {t : List ℕ} {v : ℕ} {b : List ℕ} {n : ℕ} {x : List ℕ} → Shades p t v b n x → n ≤ 1

@@ -1,47 +1,37 @@
--- What shading asks of the page table, the bitmaps and the values that it is given, and what it leaves.
+-- What shading asks of the values that it is given, with the page table and the bitmaps, and what it leaves.
 use Prim.Native.Nat.{ℕ, _+_, _*_, _<_, _≤_}
 use mathlib.Core.Bool.{cond}
 use mathlib.Core.List.{List}
 use mathlib.Core.Logic.{_≢_}
 use mathlib.Core.Path.{_≡_}
 use lib.ListN.{length, getD}
-use Rattle.model.specs.Memory.{maxPages, pageWords, entryNumbers, bitmapWords, rootWords, nil, pageOf}
+use Rattle.model.specs.Memory.{pageWords, nil}
 use Rattle.model.specs.Spans.{spanOf, recordOf}
 use Rattle.model.specs.Shading.{isWhite, shade, shadeAll, shadeCount}
-
--- a page table and bitmaps of p pages
-pub record Tables (p : ℕ) (t b : List ℕ) : Type 0 where
-  pub high : p ≤ maxPages
-  pub table : length t ≡ entryNumbers * p
-  pub bits : length b ≡ bitmapWords * p
+use Rattle.model.specs.Lent.{Roots, Tables}
 
 -- the record that a value names lies in the arena, and its span starts there
-pub record Named (p : ℕ) (t : List ℕ) (v : ℕ) : Type 0 where
+pub record NamesRecord (p : ℕ) (t : List ℕ) (v : ℕ) : Type 0 where
   pub word : recordOf t v < pageWords * p
   pub span : spanOf t (recordOf t v) < p
-
--- the span that word w lies in has its entry in the table
-pub record Scanned (t : List ℕ) (w : ℕ) : Type 0 where
-  pub page : entryNumbers * pageOf w + 2 < length t
-  pub span : entryNumbers * spanOf t w + 2 < length t
 
 -- a value that may be shaded: nil, or one that names a record
 pub record Shadable (p : ℕ) (t b : List ℕ) (v : ℕ) : Type 0 where
   pub tables : Tables p t b
-  pub named : v ≢ nil → Named p t v
+  pub named : v ≢ nil → NamesRecord p t v
 
 -- a store's old and new value, with the roots, which have the phase
 pub record Stored (p : ℕ) (t b r : List ℕ) (old new : ℕ) : Type 0 where
   pub tables : Tables p t b
-  pub roots : length r ≡ rootWords
-  pub oldNamed : old ≢ nil → Named p t old
-  pub newNamed : new ≢ nil → Named p t new
+  pub roots : Roots r
+  pub oldNamed : old ≢ nil → NamesRecord p t old
+  pub newNamed : new ≢ nil → NamesRecord p t new
 
--- n values of a list, from a place on
-pub record Each (p : ℕ) (t b words : List ℕ) (from n : ℕ) : Type 0 where
+-- n values of a list that may be shaded, from a place on
+pub record ShadableSlice (p : ℕ) (t b words : List ℕ) (from n : ℕ) : Type 0 where
   pub tables : Tables p t b
   pub inside : from + n ≤ length words
-  pub each : (i : ℕ) → i < n → getD words (from + i) 0 ≢ nil → Named p t (getD words (from + i) 0)
+  pub each : (i : ℕ) → i < n → getD words (from + i) 0 ≢ nil → NamesRecord p t (getD words (from + i) 0)
 
 -- What shading leaves: how many mark bits it turned on, and the bitmaps. One value ..
 pub record Shades (p : ℕ) (t : List ℕ) (v : ℕ) (b : List ℕ) (r : ℕ) (after : List ℕ) : Type 0 where

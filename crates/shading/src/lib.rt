@@ -8,12 +8,13 @@ ghost use lib.ListN.{getD};
 ghost use Rattle.model.specs.Memory.{lent};
 ghost use Rattle.model.specs.Spans.{isScan, spanOf};
 ghost use Rattle.model.specs.Shading.{barrier};
-ghost use Rattle.shading.specs.Needs.{Scanned, Shadable, Stored, Each, Shades, ShadesAll};
+ghost use Rattle.model.specs.Lent.{WordEntries};
+ghost use Rattle.shading.specs.Needs.{Shadable, Stored, ShadableSlice, Shades, ShadesAll};
 use units::Address;
 
 // Word w lies in a scan span.
 fn in_scan_span(table: &[u32], w: usize) -> bool
-    requires { ⌜ Scanned (now table) w ⌝ }
+    requires { ⌜ WordEntries (now table) w ⌝ }
     ensures { λ r. ⌜ r ≡ isScan (now (table .entry)) (spanOf (now (table .entry)) w) ⌝ }
 {
     let s = pages::span_of_word(table, w);
@@ -44,7 +45,9 @@ pub fn shade(p: usize, table: &[u32], bits: &mut [u64], v: u64) -> u64
 // The barrier of a store, in the mark phase: the old value is shaded, then the new.
 pub fn barrier(p: usize, table: &[u32], bits: &mut [u64], roots: &[u64], old: u64, new: u64)
     requires { ⌜ Stored p (now table) (now bits) (now roots) old new ⌝ }
-    ensures { λ r. ⌜ ((arena : List ℕ) → now (bits .exit) ≡ barrier (lent p arena (now (table .entry)) (now (bits .entry)) (now (roots .entry))) old new) ⌝ }
+    ensures { λ r. ⌜
+        ((arena : List ℕ) → now (bits .exit) ≡
+        barrier (lent p arena (now (table .entry)) (now (bits .entry)) (now (roots .entry))) old new) ⌝ }
 {
     if roots[units::PHASE] != units::MARK {
         return;
@@ -62,8 +65,10 @@ pub fn shade_slice(
     from: usize,
     n: usize,
 ) -> u64
-    requires { ⌜ Each p (now table) (now bits) (now words) from n ⌝ }
-    ensures { λ r. ⌜ ShadesAll p (now (table .entry)) n (λ i. getD (now (words .entry)) (from + i) 0) (now (bits .entry)) r (now (bits .exit)) ⌝ }
+    requires { ⌜ ShadableSlice p (now table) (now bits) (now words) from n ⌝ }
+    ensures { λ r. ⌜
+        ShadesAll p (now (table .entry)) n (λ i. getD (now (words .entry)) (from + i) 0) (now (bits .entry)) r
+        (now (bits .exit)) ⌝ }
 {
     let mut k = 0;
     let mut count: u64 = 0;

@@ -1,17 +1,27 @@
--- What the functions that change a kind require of the page table.
-use Prim.Native.Nat.{ℕ, _+_, _*_, _<_}
+-- What the functions that write entries require of the page table.
+use Prim.Native.Nat.{ℕ, _+_, _*_, _<_, _≤_}
 use mathlib.Core.List.{List}
-use mathlib.Core.Path.{_≡_}
 use lib.ListN.{length}
-use Rattle.model.specs.Memory.{entryNumbers, unsweptFlag}
-use Rattle.model.specs.Spans.{owner, kindEntry}
+use Rattle.model.specs.Memory.{maxPages, entryNumbers, unsweptFlag}
+use Rattle.model.specs.Spans.{kindEntry}
+use Rattle.model.specs.Facts.{IsSpan}
+use Rattle.model.specs.Lent.{PageTable, HasEntry}
+
+-- the n pages from page s on have their entries in t
+abbrev pub HasEntries : List ℕ → ℕ → ℕ → Type 0
+HasEntries t s n = entryNumbers * (s + n) ≤ length t
+
+-- .. and a span of them can be made: its numbers have 32 bits
+pub record NewEntries (t : List ℕ) (s n : ℕ) : Type 0 where
+  pub few : s + n ≤ maxPages
+  pub entries : HasEntries t s n
 
 -- a span starts at page s of t
-pub record Starts (t : List ℕ) (s : ℕ) : Type 0 where
-  pub long : entryNumbers * s + 2 < length t
-  pub first : owner t s ≡ s + 1
+pub record SpanEntry (t : List ℕ) (s : ℕ) : Type 0 where
+  pub entry : HasEntry t s
+  pub first : IsSpan t s
 
 -- the kinds of the spans of t, a table of p pages, leave room for the unswept flag in 32 bits
 pub record Flaggable (p : ℕ) (t : List ℕ) : Type 0 where
-  pub long : length t ≡ entryNumbers * p
-  pub room : (s : ℕ) → s < p → owner t s ≡ s + 1 → kindEntry t s + unsweptFlag < 4294967296
+  pub table : PageTable p t
+  pub room : (s : ℕ) → s < p → IsSpan t s → kindEntry t s + unsweptFlag < 4294967296

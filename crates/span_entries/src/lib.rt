@@ -3,14 +3,12 @@
 // what the numbers of an entry are, and reads them.
 ghost use mathlib.Core.Path.{_≡_};
 ghost use mathlib.Core.Bool.{_&&_};
-ghost use Prim.Native.Nat.{_+_, _*_, _<_, _≤_};
-ghost use lib.ListN.{length};
-ghost use Rattle.model.specs.Memory.{maxPages, entryNumbers};
 ghost use Rattle.model.specs.Spans.{pageCount, kindAt, startsSpan, isUnswept};
 ghost use Rattle.model.specs.Spans.{putPage, putPages, spanPage, freePage};
 ghost use Rattle.model.specs.Allocate.{someUnswept};
 ghost use Rattle.model.specs.Cycle.{unsweptPage, firstUnswept};
-ghost use Rattle.span_entries.specs.Needs.{Starts, Flaggable};
+ghost use Rattle.model.specs.Lent.{PageTable, HasEntry};
+ghost use Rattle.span_entries.specs.Needs.{HasEntries, NewEntries, SpanEntry, Flaggable};
 use pages::COUNT;
 use pages::KIND;
 use units::ENTRY_NUMBERS;
@@ -18,8 +16,9 @@ use units::UNSWEPT_FLAG;
 
 // Page g's entry.
 fn put_entry(table: &mut [u32], g: usize, owner: u32, count: u32, kind: u32)
-    requires { ⌜ entryNumbers * g + 2 < length (now table) ⌝ }
-    ensures { λ r. ⌜ now (table .exit) ≡ putPage g (record { owner = owner; count = count; kind = kind }) (now (table .entry)) ⌝ }
+    requires { ⌜ HasEntry (now table) g ⌝ }
+    ensures { λ r. ⌜
+        now (table .exit) ≡ putPage g (record { owner = owner; count = count; kind = kind }) (now (table .entry)) ⌝ }
 {
     let at = ENTRY_NUMBERS * g;
     table[at] = owner;
@@ -29,7 +28,7 @@ fn put_entry(table: &mut [u32], g: usize, owner: u32, count: u32, kind: u32)
 
 // The entries of a span of n pages from page s on. Only its first page has the count and the kind.
 pub fn write_span(table: &mut [u32], s: usize, n: usize, kind: u32)
-    requires { ⌜ (s + n ≤ maxPages) × (entryNumbers * (s + n) ≤ length (now table)) ⌝ }
+    requires { ⌜ NewEntries (now table) s n ⌝ }
     ensures { λ r. ⌜ now (table .exit) ≡ putPages s n (spanPage s n kind) (now (table .entry)) ⌝ }
 {
     let owner = (s + 1) as u32;
@@ -47,7 +46,7 @@ pub fn write_span(table: &mut [u32], s: usize, n: usize, kind: u32)
 
 // The n pages from page s on become free.
 pub fn free_span(table: &mut [u32], s: usize, n: usize)
-    requires { ⌜ entryNumbers * (s + n) ≤ length (now table) ⌝ }
+    requires { ⌜ HasEntries (now table) s n ⌝ }
     ensures { λ r. ⌜ now (table .exit) ≡ putPages s n (λ g. freePage) (now (table .entry)) ⌝ }
 {
     let mut freed = 0;
@@ -60,16 +59,19 @@ pub fn free_span(table: &mut [u32], s: usize, n: usize)
 
 // The kind of the span that starts at page s, with or without the unswept flag.
 pub fn set_kind(table: &mut [u32], s: usize, kind: u32)
-    requires { ⌜ Starts (now table) s ⌝ }
-    ensures { λ r. ⌜ now (table .exit) ≡ putPage s (spanPage s (pageCount (now (table .entry)) s) kind s) (now (table .entry)) ⌝ }
+    requires { ⌜ SpanEntry (now table) s ⌝ }
+    ensures { λ r. ⌜
+        now (table .exit) ≡ putPage s (spanPage s (pageCount (now (table .entry)) s) kind s) (now (table .entry)) ⌝ }
 {
     table[ENTRY_NUMBERS * s + KIND] = kind;
 }
 
 // The span that starts at page s becomes swept.
 pub fn make_swept(table: &mut [u32], s: usize)
-    requires { ⌜ Starts (now table) s ⌝ }
-    ensures { λ r. ⌜ now (table .exit) ≡ putPage s (spanPage s (pageCount (now (table .entry)) s) (kindAt (now (table .entry)) s) s) (now (table .entry)) ⌝ }
+    requires { ⌜ SpanEntry (now table) s ⌝ }
+    ensures { λ r. ⌜
+        now (table .exit) ≡ putPage s (spanPage s (pageCount (now (table .entry)) s) (kindAt (now (table .entry)) s) s)
+        (now (table .entry)) ⌝ }
 {
     let kind = table[ENTRY_NUMBERS * s + KIND] % UNSWEPT_FLAG;
     set_kind(table, s, kind);
@@ -92,7 +94,7 @@ pub fn make_all_unswept(p: usize, table: &mut [u32])
 
 // An unswept span starts at page s.
 fn starts_unswept(table: &[u32], s: usize) -> bool
-    requires { ⌜ entryNumbers * s + 2 < length (now table) ⌝ }
+    requires { ⌜ HasEntry (now table) s ⌝ }
     ensures { λ r. ⌜ r ≡ (startsSpan (now (table .entry)) s && isUnswept (now (table .entry)) s) ⌝ }
 {
     if pages::owner(table, s) != s + 1 {
@@ -103,7 +105,7 @@ fn starts_unswept(table: &[u32], s: usize) -> bool
 
 // The start page of the first unswept span, or p.
 pub fn first_unswept(p: usize, table: &[u32]) -> usize
-    requires { ⌜ length (now table) ≡ entryNumbers * p ⌝ }
+    requires { ⌜ PageTable p (now table) ⌝ }
     ensures { λ r. ⌜ r ≡ firstUnswept p (now (table .entry)) ⌝ }
 {
     let mut s = 0;
@@ -119,7 +121,7 @@ pub fn first_unswept(p: usize, table: &[u32]) -> usize
 
 // Some span is unswept.
 pub fn some_unswept(p: usize, table: &[u32]) -> bool
-    requires { ⌜ length (now table) ≡ entryNumbers * p ⌝ }
+    requires { ⌜ PageTable p (now table) ⌝ }
     ensures { λ r. ⌜ r ≡ someUnswept p (now (table .entry)) ⌝ }
 {
     first_unswept(p, table) < p

@@ -10,30 +10,31 @@ use Rattle.model.specs.Memory.{lent, pageWords, firstWord}
 use Rattle.model.specs.Bitmaps.{bitAt, allocated}
 use Rattle.model.specs.Spans.{pageCount, classAt, elementWords, elements, elementStart}
 use Rattle.model.specs.Allocate.{freeElement}
+use Rattle.model.specs.Lent.{MappedSpan}
 use Rattle.model.proofs.Bounded.{first-cong}
 use Rattle.model.proofs.Bitmaps.{bit-in}
 use Rattle.model.proofs.Classes.{Fits}
 use Rattle.model.proofs.Spans.{fits, element-fits}
-use Rattle.bitmap.specs.Starts.{Starts, Elements}
-use Rattle.spans.specs.Needs.{Entry, Span}
+use Rattle.bitmap.specs.Starts.{Starts, ElementRow}
+use Rattle.spans.specs.Needs.{ClassEntry}
 
-module _ {p : ℕ} {t b : List ℕ} {s : ℕ} (X : Span p t b s) where
+module _ {p : ℕ} {t b : List ℕ} {s : ℕ} (X : MappedSpan p t b s) where
   pub shape : Fits (classAt t s) (pageCount t s)
-  shape = fits (X .searchable .spans) s (X .first)
+  shape = fits (X .spans) s (X .first)
 
   pub inside : s + pageCount t s ≤ p
-  inside = X .searchable .spans .inside s (X .first)
+  inside = X .spans .inside s (X .first)
 
-  pub entry : Entry t s
-  entry = record { long = omega (arith, shape .pages, inside, X .searchable .table); class = omega (arith, X .searchable .spans .entry s (X .first) .kind) }
+  pub entry : ClassEntry t s
+  entry = record { entry = omega (arith, shape .pages, inside, X .table); class = omega (arith, X .spans .entry s (X .first) .kind) }
 
   -- the elements lie within the bitmaps
-  pub elements-lie : (mask : ℕ) → Starts (elementWords t s) mask → Elements b (firstWord s) (elementWords t s) (elements t s) mask
+  pub elements-lie : (mask : ℕ) → Starts (elementWords t s) mask → ElementRow b (firstWord s) (elementWords t s) (elements t s) mask
   elements-lie mask m = record {
     aligned = omega arith;
     some = shape .words;
-    inside = omega (arith, shape .inside, inside, X .searchable .bits);
-    fits = omega (arith, shape .inside, inside, X .searchable .few);
+    inside = omega (arith, shape .inside, inside, X .bits);
+    fits = omega (arith, shape .inside, inside, X .few);
     starts = m;
   }
 
@@ -42,4 +43,4 @@ module _ {p : ℕ} {t b : List ℕ} {s : ℕ} (X : Span p t b s) where
   unfolding freeElement
   free-is a o =
       first-cong (elements t s) _ _ (λ k l.
-      ap not (sym (bit-in (pageWords * p) allocated b (elementStart t s k) (omega (arith, element-fits (X .searchable .spans) s k (X .first) l, inside, shape .words)))))
+      ap not (sym (bit-in (pageWords * p) allocated b (elementStart t s k) (omega (arith, element-fits (X .spans) s k (X .first) l, inside, shape .words)))))

@@ -2,26 +2,24 @@
 // a slot, loading a global. Each asks the check of crate root_checks that gives its refusal, 0 where
 // there is none, and then does its work. They are taken after the audit, of which they need the
 // roots' length.
-ghost use mathlib.Core.Path.{_≡_};
 ghost use Prim.Native.Nat.{_<_};
-ghost use lib.ListN.{length};
-ghost use Rattle.model.specs.Memory.{rootWords, stackCount};
+ghost use Rattle.model.specs.Memory.{stackCount};
 ghost use Rattle.model.specs.Records.{emptied, openStack, closeStack, copy, clear, loadGlobal};
-ghost use Rattle.root_checks.specs.OnRoots.{Leaves, Does};
+ghost use Rattle.model.specs.Lent.{Roots, LeavesRoots, MeetsByRoots};
 use model::Answer;
 
 // All slots of stack s become nil, and its state is set.
 fn empty(roots: &mut [u64], s: usize, state: u64)
-    requires { ⌜ (s < stackCount) × (length (now roots) ≡ rootWords) ⌝ }
-    ensures { λ r. ⌜ Leaves (λ h. emptied h s state) (now (roots .entry)) (now (roots .exit)) ⌝ }
+    requires { ⌜ (s < stackCount) × Roots (now roots) ⌝ }
+    ensures { λ r. ⌜ LeavesRoots (λ h. emptied h s state) (now (roots .entry)) (now (roots .exit)) ⌝ }
 {
     words::zero_part(roots, units::SLOTS * s, units::SLOTS);
     roots[units::FIRST_STATE + s] = state;
 }
 
 pub fn open_stack(roots: &mut [u64], s: u64) -> Answer
-    requires { ⌜ length (now roots) ≡ rootWords ⌝ }
-    ensures { λ r. ⌜ Does (λ h. openStack h s) r (now (roots .entry)) (now (roots .exit)) ⌝ }
+    requires { ⌜ Roots (now roots) ⌝ }
+    ensures { λ r. ⌜ MeetsByRoots (λ h. openStack h s) r (now (roots .entry)) (now (roots .exit)) ⌝ }
 {
     let n = root_checks::not_closed(roots, s);
     if n != 0 {
@@ -32,8 +30,8 @@ pub fn open_stack(roots: &mut [u64], s: u64) -> Answer
 }
 
 pub fn close_stack(roots: &mut [u64], s: u64) -> Answer
-    requires { ⌜ length (now roots) ≡ rootWords ⌝ }
-    ensures { λ r. ⌜ Does (λ h. closeStack h s) r (now (roots .entry)) (now (roots .exit)) ⌝ }
+    requires { ⌜ Roots (now roots) ⌝ }
+    ensures { λ r. ⌜ MeetsByRoots (λ h. closeStack h s) r (now (roots .entry)) (now (roots .exit)) ⌝ }
 {
     let n = root_checks::not_open(roots, s);
     if n != 0 {
@@ -45,8 +43,8 @@ pub fn close_stack(roots: &mut [u64], s: u64) -> Answer
 
 // Slot i of stack s becomes slot j.
 pub fn copy(roots: &mut [u64], s: u64, i: u64, j: u64) -> Answer
-    requires { ⌜ length (now roots) ≡ rootWords ⌝ }
-    ensures { λ r. ⌜ Does (λ h. copy h s i j) r (now (roots .entry)) (now (roots .exit)) ⌝ }
+    requires { ⌜ Roots (now roots) ⌝ }
+    ensures { λ r. ⌜ MeetsByRoots (λ h. copy h s i j) r (now (roots .entry)) (now (roots .exit)) ⌝ }
 {
     let n = root_checks::slots_refusal(roots, s, i, j);
     if n != 0 {
@@ -61,8 +59,8 @@ pub fn copy(roots: &mut [u64], s: u64, i: u64, j: u64) -> Answer
 
 // Slot i of stack s becomes nil.
 pub fn clear(roots: &mut [u64], s: u64, i: u64) -> Answer
-    requires { ⌜ length (now roots) ≡ rootWords ⌝ }
-    ensures { λ r. ⌜ Does (λ h. clear h s i) r (now (roots .entry)) (now (roots .exit)) ⌝ }
+    requires { ⌜ Roots (now roots) ⌝ }
+    ensures { λ r. ⌜ MeetsByRoots (λ h. clear h s i) r (now (roots .entry)) (now (roots .exit)) ⌝ }
 {
     let n = root_checks::slot_refusal(roots, s, i);
     if n != 0 {
@@ -75,8 +73,8 @@ pub fn clear(roots: &mut [u64], s: u64, i: u64) -> Answer
 
 // Slot i of stack s becomes global g.
 pub fn load_global(roots: &mut [u64], s: u64, i: u64, g: u64) -> Answer
-    requires { ⌜ length (now roots) ≡ rootWords ⌝ }
-    ensures { λ r. ⌜ Does (λ h. loadGlobal h s i g) r (now (roots .entry)) (now (roots .exit)) ⌝ }
+    requires { ⌜ Roots (now roots) ⌝ }
+    ensures { λ r. ⌜ MeetsByRoots (λ h. loadGlobal h s i g) r (now (roots .entry)) (now (roots .exit)) ⌝ }
 {
     let n = root_checks::global_refusal(roots, s, i, g);
     if n != 0 {

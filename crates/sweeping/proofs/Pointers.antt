@@ -21,7 +21,7 @@ use Rattle.bitrange.proofs.Runs.{run-append, run-cong}
 use Rattle.bitrange.proofs.Bits.{Fit, bits-ext, bits-at, bits-length, bits-fit}
 use Rattle.bitrange.proofs.Parts.{place-from, part-as-bits, part-constant}
 use Rattle.bitsearch.specs.Freed.{isFreed}
-use Rattle.sweeping.specs.Spans.{Sweepable}
+use Rattle.sweeping.specs.Needs.{Sweepable}
 
 -- a run of bits of a part that are as they were
 pub run-same : (n : ℕ) (q : Part) (w k : ℕ) (g : ℕ → Bool) (b : List ℕ) → w + k ≤ n → Four n b → Fit b → ((x : ℕ) → w ≤ x → x < w + k → g x ≡ bitIn n q b x) →
@@ -72,26 +72,26 @@ pub record Cleared (p : ℕ) (t b : List ℕ) (s at : ℕ) (now : List ℕ) : Ty
 
 module _ (p : ℕ) (t b : List ℕ) (s : ℕ) (S : Sweepable p t b s) (fit : Fit b) where
   inside : pageWords * (s + pageCount t s) ≤ pageWords * p
-  inside = omega (arith, S .spans .inside s (S .starts))
+  inside = omega (arith, S .consistent .spans .inside s (S .starts))
 
   four : Four (pageWords * p) b
-  four = omega (arith, S .bits)
+  four = omega (arith, S .consistent .bits)
 
   -- the words of the span
   home : (w : ℕ) → pageWords * s ≤ w → w < pageWords * (s + pageCount t s) → spanOf t w ≡ s
-  home w l m = at-home (S .spans) s w (S .starts) l m .1
+  home w l m = at-home (S .consistent .spans) s w (S .starts) l m .1
 
   -- a freed element: it is whole, and not marked
   module _ (at : ℕ) (low : pageWords * s ≤ at) (high : at < pageWords * (s + pageCount t s)) (freed : isFreed p b at ≡ true) where
     pub freed-start : startIn t s at ≡ at
     freed-start =
         let a = and-iff (bit p allocated b at) (not (bit p marked b at)) .0 (is-true _ freed) .0 in
-        rw (home at low high) at (S .members .element at a .first)
+        rw (home at low high) at (S .consistent .rules .element at a .first)
 
     pub freed-whole : at + elementWords t s ≤ pageWords * (s + pageCount t s)
     freed-whole =
         let a = and-iff (bit p allocated b at) (not (bit p marked b at)) .0 (is-true _ freed) .0 in
-        rw (home at low high) at (whole (S .spans) at (S .members .element at a) .0)
+        rw (home at low high) at (whole (S .consistent .spans) at (S .consistent .rules .element at a) .0)
 
     pub freed-clear : (w : ℕ) → at ≤ w → w < at + elementWords t s → stays p t b s w ≡ false
     freed-clear w l m =
@@ -103,7 +103,7 @@ module _ (p : ℕ) (t b : List ℕ) (s : ℕ) (S : Sweepable p t b s) (fit : Fit
     next-bound w l m = go (eqb at (startIn t s w)) refl
       where
         r : (pageWords * s ≤ startIn t s w) × (startIn t s w ≤ w) × (w < startIn t s w + elementWords t s)
-        r = start-range t s w (omega arith) (fits (S .spans) s (S .starts) .words)
+        r = start-range t s w (omega arith) (fits (S .consistent .spans) s (S .starts) .words)
 
         go : (c : Bool) → eqb at (startIn t s w) ≡ c → at + elementWords t s ≤ startIn t s w
         go true e = absurd (omega (arith, r .2, eqb-true at (startIn t s w) e))
@@ -124,8 +124,8 @@ module _ (p : ℕ) (t b : List ℕ) (s : ℕ) (S : Sweepable p t b s) (fit : Fit
       go : (c : Bool) → bit p pointer b w ≡ c → (c && bit p marked b (startIn t s w)) ≡ c
       go false x = refl
       go true x =
-          let a = rw (home w (omega arith) (omega arith)) at (S .members .pointers w (is-true _ x) .2) in
-          let r = start-range t s w (omega arith) (fits (S .spans) s (S .starts) .words) in
+          let a = rw (home w (omega arith) (omega arith)) at (S .consistent .rules .pointers w (is-true _ x) .2) in
+          let r = start-range t s w (omega arith) (fits (S .consistent .spans) s (S .starts) .words) in
           marks a (none (startIn t s w) (bound w i (omega arith)) (omega (arith, r .1)))
 
   -- the bitmaps below one more word
@@ -147,7 +147,7 @@ module _ (p : ℕ) (t b : List ℕ) (s : ℕ) (S : Sweepable p t b s) (fit : Fit
     up-freed w = rw (up-bit allocated w, up-bit marked w)
 
     up-fit : Fit (upTo p t b s q)
-    up-fit = run-fit (pageWords * p) pointer (pageWords * s) (q - pageWords * s) (stays p t b s) b (omega (arith, inside, S .bits)) fit
+    up-fit = run-fit (pageWords * p) pointer (pageWords * s) (q - pageWords * s) (stays p t b s) b (omega (arith, inside, S .consistent .bits)) fit
 
     -- on from word q, where no element starts before and reaches past it, to the next freed element
     module _ (bound : (w : ℕ) → q ≤ w → w < pageWords * (s + pageCount t s) → q ≤ startIn t s w) where
@@ -176,7 +176,7 @@ module _ (p : ℕ) (t b : List ℕ) (s : ℕ) (S : Sweepable p t b s) (fit : Fit
   begun at e =
       let z : pageWords * s - pageWords * s ≡ 0 = omega arith in
       let u : upTo p t b s (pageWords * s) ≡ b = rw z (run-none (putBit (pageWords * p) pointer) (pageWords * s) (stays p t b s) b) in
-      rw u at (on-to-next (pageWords * s) (omega arith) (omega arith) (λ w l m. start-range t s w l (fits (S .spans) s (S .starts) .words) .0) at (rw u e))
+      rw u at (on-to-next (pageWords * s) (omega arith) (omega arith) (λ w l m. start-range t s w l (fits (S .consistent .spans) s (S .starts) .words) .0) at (rw u e))
 
   -- the freed element's pointer bits go, and the search goes on behind it
   cleared-on : (at : ℕ) (now then : List ℕ) → Cleared p t b s at now → at < pageWords * (s + pageCount t s) →
@@ -211,4 +211,4 @@ module _ (p : ℕ) (t b : List ℕ) (s : ℕ) (S : Sweepable p t b s) (fit : Fit
     where
       go : (w : ℕ) → pageWords * s ≤ w → w < pageWords * (s + pageCount t s) → (c : Bool) → bit p pointer b w ≡ c → (c && bit p marked b (startIn t s w)) ≡ c
       go w l m false x = refl
-      go w l m true x = clash (isScan t s) (of-true (isScan t s) (rw (home w l m) at (S .members .pointers w (is-true _ x) .1))) (ne-eqb (kindEntry t s % unsweptFlag % 2) 0 (omega arith))
+      go w l m true x = clash (isScan t s) (of-true (isScan t s) (rw (home w l m) at (S .consistent .rules .pointers w (is-true _ x) .1))) (ne-eqb (kindEntry t s % unsweptFlag % 2) 0 (omega arith))

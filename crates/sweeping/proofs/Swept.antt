@@ -18,9 +18,9 @@ use Rattle.model.proofs.Tests.{is-true}
 use Rattle.model.proofs.Spans.{startIn, start-is, at-home, fits}
 use Rattle.model.specs.Facts.{bit}
 use Rattle.bitrange.proofs.Parts.{swept-parts, part-count}
-use Rattle.sweeping.specs.Spans.{Sweepable, SweepsSpan}
+use Rattle.sweeping.specs.Needs.{Sweepable, SweepsSpan}
 use Rattle.sweeping.proofs.Counts.{count-elements, count-split, none-counted}
-use Rattle.sweeping.proofs.Places.{placed}
+use Rattle.sweeping.proofs.Bounds.{bounds}
 use Rattle.sweeping.proofs.Pointers.{stays}
 
 module _ (p : ℕ) (t b : List ℕ) (s : ℕ) (S : Sweepable p t b s) where
@@ -31,14 +31,14 @@ module _ (p : ℕ) (t b : List ℕ) (s : ℕ) (S : Sweepable p t b s) where
       (a roots : List ℕ) → then ≡ sweptBits (lent p a t b roots) s
   unfolding sweptBits
   swept-words c k e f a roots =
-      (rw k at f) ∙ rw e (sym (swept-parts (pageWords * p) (pageWords * s) (pageWords * pageCount t s) (stays p t b s) b (omega (arith, placed S)) (omega (arith, S .bits)) (pageBlocks * s) (pageBlocks * p + pageBlocks * s) (pageBlocks * pageCount t s) (omega arith) (omega arith) (omega arith)))
+      (rw k at f) ∙ rw e (sym (swept-parts (pageWords * p) (pageWords * s) (pageWords * pageCount t s) (stays p t b s) b (omega (arith, bounds S)) (omega (arith, S .consistent .bits)) (pageBlocks * s) (pageBlocks * p + pageBlocks * s) (pageBlocks * pageCount t s) (omega arith) (omega arith) (omega arith)))
 
   -- the bits of a part that stand at allocated elements alone, counted over the span's words
   module _ (q : Part) (only : (w : ℕ) → T (bit p q b w) → T (bit p allocated b w)) where
     start : (w : ℕ) → pageWords * s ≤ w → w < pageWords * (s + pageCount t s) → bit p q b w ≡ true → (startIn t s w ≡ w) × (elementNumber t s w < elements t s)
     start w l m e =
-        let E = S .members .element w (only w (is-true _ e)) in
-        let h = at-home (S .spans) s w (S .starts) l m .1 in
+        let E = S .consistent .rules .element w (only w (is-true _ e)) in
+        let h = at-home (S .consistent .spans) s w (S .starts) l m .1 in
         (rw h at (E .first), rw h at (E .lies .number))
 
     inner : (k j : ℕ) → k < elements t s → 0 < j → j < elementWords t s → bit p q b (pageWords * s + (k * elementWords t s + j)) ≡ false
@@ -51,7 +51,7 @@ module _ (p : ℕ) (t b : List ℕ) (s : ℕ) (S : Sweepable p t b s) where
         go false e = refl
         go true e =
             let w = pageWords * s + (k * elementWords t s + j) in
-            let room : w < pageWords * (s + pageCount t s) = omega (arith, rw (suc-mul k (elementWords t s)) at last, fits (S .spans) s (S .starts) .inside) in
+            let room : w < pageWords * (s + pageCount t s) = omega (arith, rw (suc-mul k (elementWords t s)) at last, fits (S .consistent .spans) s (S .starts) .inside) in
             let x = start w (omega arith) room e .0 in
             let y = start-is t s k w (omega arith) (omega arith) in
             absurd (omega (arith, x, y))
@@ -64,21 +64,21 @@ module _ (p : ℕ) (t b : List ℕ) (s : ℕ) (S : Sweepable p t b s) where
         go true e =
             let x = start (pageWords * s + i) (omega arith) (omega arith) e in
             let n = elementNumber t s (pageWords * s + i) in
-            absurd (omega (arith, x .0, rw (suc-mul n (elementWords t s)) at (mul-le-mul-right (elementWords t s) (x .1)), fits (S .spans) s (S .starts) .words))
+            absurd (omega (arith, x .0, rw (suc-mul n (elementWords t s)) at (mul-le-mul-right (elementWords t s) (x .1)), fits (S .consistent .spans) s (S .starts) .words))
 
     pub part-counted : countBelow (pageWords * pageCount t s) (λ j. bit p q b (pageWords * s + j)) ≡ countBelow (elements t s) (λ k. bit p q b (elementStart t s k))
     part-counted =
-        count-elements (pageWords * pageCount t s) (elementWords t s) (elements t s) (λ j. bit p q b (pageWords * s + j)) (fits (S .spans) s (S .starts) .words)
-        (fits (S .spans) s (S .starts) .inside) inner behind
+        count-elements (pageWords * pageCount t s) (elementWords t s) (elements t s) (λ j. bit p q b (pageWords * s + j)) (fits (S .consistent .spans) s (S .starts) .words)
+        (fits (S .consistent .spans) s (S .starts) .inside) inner behind
 
   -- what two counts of the bits of the span's words say
-  pub record Counted (all kept : ℕ) : Type 0 where
+  pub record SpanCounts (all kept : ℕ) : Type 0 where
     pub less : kept ≤ all
     pub freed : (a roots : List ℕ) → all - kept ≡ freedCount (lent p a t b roots) s
     pub left : (a roots : List ℕ) → nothingLeft (lent p a t b roots) s ≡ eqb kept 0
 
   pub counted : (all kept : ℕ) → all ≡ countBelow (pageBlocks * pageCount t s * 64) (λ k. bitAt b (pageBlocks * s * 64 + k)) →
-      kept ≡ countBelow (pageBlocks * pageCount t s * 64) (λ k. bitAt b ((pageBlocks * p + pageBlocks * s) * 64 + k)) → Counted all kept
+      kept ≡ countBelow (pageBlocks * pageCount t s * 64) (λ k. bitAt b ((pageBlocks * p + pageBlocks * s) * 64 + k)) → SpanCounts all kept
   unfolding freedCount nothingLeft
   counted all kept e f = record { less = omega (arith, x, y, z); freed = λ a roots. omega (arith, x, y, z); left = λ a roots. none-counted (elements t s) (λ k. bit p marked b (elementStart t s k)) ∙ ap (λ n. eqb n 0) (sym y) }
     where
@@ -87,18 +87,18 @@ module _ (p : ℕ) (t b : List ℕ) (s : ℕ) (S : Sweepable p t b s) where
 
       x : all ≡ countBelow (elements t s) (λ k. bit p allocated b (elementStart t s k))
       x = let first : pageBlocks * s * 64 ≡ pageWords * s = omega arith in
-          (rw (n, first) at e) ∙ sym (part-count (pageWords * p) allocated (pageWords * s) (pageWords * pageCount t s) b (omega (arith, placed S))) ∙ part-counted allocated (λ w a. a)
+          (rw (n, first) at e) ∙ sym (part-count (pageWords * p) allocated (pageWords * s) (pageWords * pageCount t s) b (omega (arith, bounds S))) ∙ part-counted allocated (λ w a. a)
 
       y : kept ≡ countBelow (elements t s) (λ k. bit p marked b (elementStart t s k))
       y = let first : (pageBlocks * p + pageBlocks * s) * 64 ≡ pageWords * p + pageWords * s = omega arith in
-          (rw (n, first) at f) ∙ sym (part-count (pageWords * p) marked (pageWords * s) (pageWords * pageCount t s) b (omega (arith, placed S))) ∙ part-counted marked (S .members .marks)
+          (rw (n, first) at f) ∙ sym (part-count (pageWords * p) marked (pageWords * s) (pageWords * pageCount t s) b (omega (arith, bounds S))) ∙ part-counted marked (S .consistent .rules .marks)
 
       z : countBelow (elements t s) (λ k. bit p allocated b (elementStart t s k)) ≡
           countBelow (elements t s) (λ k. bit p allocated b (elementStart t s k) && not (bit p marked b (elementStart t s k))) + countBelow (elements t s) (λ k. bit p marked b (elementStart t s k))
-      z = count-split (elements t s) (λ k. bit p allocated b (elementStart t s k)) (λ k. bit p marked b (elementStart t s k)) (λ k l. S .members .marks (elementStart t s k))
+      z = count-split (elements t s) (λ k. bit p allocated b (elementStart t s k)) (λ k. bit p marked b (elementStart t s k)) (λ k l. S .consistent .rules .marks (elementStart t s k))
 
   -- nothing is left: the pages become free
-  pub span-freed : {all kept n : ℕ} {table bits : List ℕ} → Counted all kept → kept ≡ 0 → n ≡ pageCount t s → table ≡ putPages s n (λ g. freePage) t →
+  pub span-freed : {all kept n : ℕ} {table bits : List ℕ} → SpanCounts all kept → kept ≡ 0 → n ≡ pageCount t s → table ≡ putPages s n (λ g. freePage) t →
       ((a roots : List ℕ) → bits ≡ sweptBits (lent p a t b roots) s) → (a roots : List ℕ) → SweepsSpan (lent p a t b roots) s (Swept (s + 1) (all - kept) n) table bits
   unfolding sweptTable
   span-freed {all} {kept} {n} {table} {bits} C e i f g a roots =
@@ -106,7 +106,7 @@ module _ (p : ℕ) (t b : List ℕ) (s : ℕ) (S : Sweepable p t b s) where
       record { answer = rw (z, ← C .freed a roots, i); table = rw z (f ∙ rw i); bits = g a roots }
 
   -- something is left: the span becomes swept
-  pub span-kept : {all kept : ℕ} {table bits : List ℕ} → Counted all kept → kept ≢ 0 → table ≡ putPage s (spanPage s (pageCount t s) (kindAt t s) s) t →
+  pub span-kept : {all kept : ℕ} {table bits : List ℕ} → SpanCounts all kept → kept ≢ 0 → table ≡ putPage s (spanPage s (pageCount t s) (kindAt t s) s) t →
       ((a roots : List ℕ) → bits ≡ sweptBits (lent p a t b roots) s) → (a roots : List ℕ) → SweepsSpan (lent p a t b roots) s (Swept (s + 1) (all - kept) 0) table bits
   unfolding sweptTable
   span-kept {all} {kept} {table} {bits} C d f g a roots =

@@ -7,17 +7,20 @@ ghost use Prim.Native.Nat.{ℕ, _*_};
 ghost use Rattle.model.specs.Memory.{lent, pageWords, firstWord};
 ghost use Rattle.model.specs.Bitmaps.{bitIn, putBits, marked, pointer};
 ghost use Rattle.model.specs.Spans.{pageCount, elementStart, elementNumber};
-ghost use Rattle.model.specs.Answers.{Meets};
 ghost use Rattle.model.specs.Cycle.{sweptBits, sweepStep};
-ghost use Rattle.model.specs.Facts.{Audited};
-ghost use Rattle.sweeping.specs.Spans.{Sweepable, SweepsSpan};
+ghost use Rattle.model.specs.Lent.{AuditedWithoutArena, MeetsWithoutArena};
+ghost use Rattle.sweeping.specs.Needs.{Sweepable, SweepsSpan};
 use model::Answer;
 use units::PAGE_BLOCKS;
 
 // Clears the pointer bits of the freed elements of the span at page s. A noscan span has none.
 fn clear_freed(p: usize, table: &[u32], bits: &mut [u64], s: usize)
     requires { ⌜ Sweepable p (now table) (now bits) s ⌝ }
-    ensures { λ r. ⌜ now (bits .exit) ≡ putBits (pageWords * p) pointer (firstWord s) (pageWords * pageCount (now (table .entry)) s) (λ w. bitIn (pageWords * p) pointer (now (bits .entry)) w && bitIn (pageWords * p) marked (now (bits .entry)) (elementStart (now (table .entry)) s (elementNumber (now (table .entry)) s w))) (now (bits .entry)) ⌝ }
+    ensures { λ r. ⌜
+        now (bits .exit) ≡ putBits (pageWords * p) pointer (firstWord s) (pageWords * pageCount (now (table .entry)) s)
+        (λ w. bitIn (pageWords * p) pointer (now (bits .entry)) w && bitIn (pageWords * p) marked (now (bits .entry))
+        (elementStart (now (table .entry)) s (elementNumber (now (table .entry)) s w)))
+        (now (bits .entry)) ⌝ }
 {
     let kind = pages::kind_entry(table, s) % units::UNSWEPT_FLAG as usize;
     if kind % 2 == 1 {
@@ -38,7 +41,9 @@ fn clear_freed(p: usize, table: &[u32], bits: &mut [u64], s: usize)
 // marks go.
 fn sweep_bits(p: usize, table: &[u32], bits: &mut [u64], s: usize)
     requires { ⌜ Sweepable p (now table) (now bits) s ⌝ }
-    ensures { λ r. ⌜ ((a roots : List ℕ) → now (bits .exit) ≡ sweptBits (lent p a (now (table .entry)) (now (bits .entry)) roots) s) ⌝ }
+    ensures { λ r. ⌜
+        ((a roots : List ℕ) →
+        now (bits .exit) ≡ sweptBits (lent p a (now (table .entry)) (now (bits .entry)) roots) s) ⌝ }
 {
     clear_freed(p, table, bits, s);
     let first = PAGE_BLOCKS * s;
@@ -50,7 +55,9 @@ fn sweep_bits(p: usize, table: &[u32], bits: &mut [u64], s: usize)
 // allocated elements alone, so that two counts tell it.
 fn sweep_span(p: usize, table: &mut [u32], bits: &mut [u64], s: usize) -> Answer
     requires { ⌜ Sweepable p (now table) (now bits) s ⌝ }
-    ensures { λ r. ⌜ ((a roots : List ℕ) → SweepsSpan (lent p a (now (table .entry)) (now (bits .entry)) roots) s r (now (table .exit)) (now (bits .exit))) ⌝ }
+    ensures { λ r. ⌜
+        ((a roots : List ℕ) → SweepsSpan (lent p a (now (table .entry)) (now (bits .entry)) roots) s r
+        (now (table .exit)) (now (bits .exit))) ⌝ }
 {
     let n = pages::page_count(table, s);
     let first = PAGE_BLOCKS * s;
@@ -70,8 +77,10 @@ fn sweep_span(p: usize, table: &mut [u32], bits: &mut [u64], s: usize) -> Answer
 
 // One sweep step: the lowest unswept span is swept; where there is none the cycle ends.
 pub fn sweep_step(p: usize, table: &mut [u32], bits: &mut [u64], roots: &mut [u64]) -> Answer
-    requires { ⌜ ((a : List ℕ) × Audited (lent p a (now table) (now bits) (now roots))) ⌝ }
-    ensures { λ r. ⌜ ((a : List ℕ) → Meets (sweepStep (lent p a (now (table .entry)) (now (bits .entry)) (now (roots .entry)))) r a (now (table .exit)) (now (bits .exit)) (now (roots .exit))) ⌝ }
+    requires { ⌜ AuditedWithoutArena p (now table) (now bits) (now roots) ⌝ }
+    ensures { λ r. ⌜
+        MeetsWithoutArena (λ h. sweepStep h) p (now (table .entry)) (now (bits .entry)) (now (roots .entry)) r
+        (now (table .exit)) (now (bits .exit)) (now (roots .exit)) ⌝ }
 {
     if roots[units::PHASE] != units::SWEEP {
         return Answer::Refused(units::WRONG_PHASE);

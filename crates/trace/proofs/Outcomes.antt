@@ -8,7 +8,7 @@ use native.Mathlib.Omega.{arith}
 use lib.Dec.{leb}
 use borrow.Author.Tests.{le-leb, lt-leb, leb-false}
 use Rattle.model.specs.Memory.{Heap}
-use Rattle.model.specs.Answers.{Outcome, Meets}
+use Rattle.model.specs.Answers.{Outcome, Meets, badBuffers}
 use Rattle.model.specs.Calls as model
 use Rattle.model.specs.declared.Answer.{Answer}
 use Rattle.model.specs.declared.Answer.the-variants.{Refused}
@@ -18,7 +18,7 @@ use Rattle.lines.specs.declared.Line.the-variants.{Bad, Setup, Call}
 use Rattle.lines.proofs.Line.{enum}
 use Rattle.answers.specs.Text.{answerText, badText, Wrote}
 use Rattle.answers.proofs.Bytes.{answer-length, bad-length}
-use Rattle.trace.specs.Play.{answered, playedBad, accepted, inReach, setupRefused, setupOf, withPages, first, later, pagesOf, Plays}
+use Rattle.trace.specs.Play.{answered, playedBad, isAccepted, mostPages, inReach, setupRefused, playedSetup, withPages, first, later, pagesOf, Plays}
 
 -- a call was made and its answer written
 pub plays : {o : Outcome} {answer : Answer} {a t b s x y : List ℕ} {at e : ℕ} (more : Bool) → Meets o answer a t b s → Wrote (answerText answer) at x y e → Plays (answered o more) at x y (record { at = e; more = more }) a t b s
@@ -45,33 +45,33 @@ plays-bad {h} {x} {y} {at} {e} number w = record {
 }
 
 -- P is 1 to 8, or not
-pub reach-yes : (p : ℕ) → 1 ≤ p → p ≤ 8 → inReach p ≡ true
-reach-yes p h k = rw (le-leb 1 p h, le-leb p 8 k)
+pub reach-yes : (p : ℕ) → 1 ≤ p → p ≤ mostPages → inReach p ≡ true
+reach-yes p h k = rw (le-leb 1 p h, le-leb p mostPages k)
 
 pub reach-none : (p : ℕ) → p ≡ 0 → inReach p ≡ false
 reach-none p h = rw (lt-leb 1 p (omega arith))
 
-pub reach-past : (p : ℕ) → 8 < p → inReach p ≡ false
-reach-past p h = rw (le-leb 1 p (omega arith), lt-leb p 8 h)
+pub reach-past : (p : ℕ) → mostPages < p → inReach p ≡ false
+reach-past p h = rw (le-leb 1 p (omega arith), lt-leb p mostPages h)
 
-pub pages-kept : (p : ℕ) → p ≤ 8 → p ≡ cond (inReach p) p 0
+pub pages-kept : (p : ℕ) → p ≤ mostPages → p ≡ cond (inReach p) p 0
 pages-kept p k = go (leb 1 p) refl
   where
-    go : (q : Bool) → leb 1 p ≡ q → p ≡ cond (q && leb p 8) p 0
-    go true e = rw (le-leb p 8 k)
+    go : (q : Bool) → leb 1 p ≡ q → p ≡ cond (q && leb p mostPages) p 0
+    go true e = rw (le-leb p mostPages k)
     go false e = omega (arith, leb-false 1 p e)
 
 -- `H P` out of reach
-pub plays-refused : {x y : List ℕ} {at e : ℕ} (h : Heap) (p : ℕ) → inReach p ≡ false → Wrote (answerText (Refused 1)) at x y e →
-    Plays (setupOf p h) at x y (record { at = e; more = false }) (h .arena) (h .table) (h .bits) (h .roots)
-unfolding setupOf
+pub plays-refused : {x y : List ℕ} {at e : ℕ} (h : Heap) (p : ℕ) → inReach p ≡ false → Wrote (answerText (Refused badBuffers)) at x y e →
+    Plays (playedSetup p h) at x y (record { at = e; more = false }) (h .arena) (h .table) (h .bits) (h .roots)
+unfolding playedSetup
 plays-refused h p r w = rw r (plays {o = setupRefused h} false (record { answer = refl; listed = refl; arena = refl; table = refl; bits = refl; roots = refl }) w)
 
 -- .. and in reach
 pub plays-setup : {answer : Answer} {a t b s x y : List ℕ} {at e : ℕ} {more : Bool} (h : Heap) (p : ℕ) → inReach p ≡ true →
-    Meets (model.run (withPages p h) model.Setup) answer a t b s → more ≡ accepted answer → Wrote (answerText answer) at x y e →
-    Plays (setupOf p h) at x y (record { at = e; more = more }) a t b s
-unfolding setupOf
+    Meets (model.run (withPages p h) model.Setup) answer a t b s → more ≡ isAccepted answer → Wrote (answerText answer) at x y e →
+    Plays (playedSetup p h) at x y (record { at = e; more = more }) a t b s
+unfolding playedSetup
 plays-setup {answer} {a} {t} {b} {s} {x} {y} {at} {e} {more} h p r m k w =
     let q = plays more m w in
     rw r (record { written = q .written; room = q .room; more = rw (← m .answer) k; arena = q .arena; table = q .table; bits = q .bits; roots = q .roots })

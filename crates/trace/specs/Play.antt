@@ -11,9 +11,9 @@ use Rattle.model.specs.declared.Answer.{Answer}
 use Rattle.model.specs.declared.Answer.the-variants.{Refused, Done, Value, Swept}
 use Rattle.lines.specs.declared.Line.{Line}
 use Rattle.lines.specs.declared.Line.the-variants.{Bad, Setup, Call}
-use Rattle.answers.specs.Text.{answerText, badText, Wrote}
+use Rattle.answers.specs.Text.{answerText, badText, longestAnswer, Wrote}
 use Rattle.dispatch.specs.Dispatch.{callOf}
-use Rattle.trace.specs.declared.Step.{Step}
+use Rattle.trace.specs.declared.LineResult.{LineResult}
 
 pub record Played : Type 0 where
   pub text : List ℕ
@@ -28,15 +28,18 @@ answered o more = record { text = answerText (o .answer); heap = o .heap; more =
 abbrev pub playedBad : ℕ → Heap → Played
 playedBad number h = record { text = badText number; heap = h; more = false }
 
-abbrev pub accepted : Answer → Bool
-accepted (Refused n) = false
-accepted Done = true
-accepted (Value v) = true
-accepted (Swept start freed returned) = true
+abbrev pub isAccepted : Answer → Bool
+isAccepted (Refused n) = false
+isAccepted Done = true
+isAccepted (Value v) = true
+isAccepted (Swept start freed returned) = true
 
--- "P 1 to 8"
+-- "P 1 to 8": the trace program has memory for so many pages
+abbrev pub mostPages : ℕ
+mostPages = 8
+
 abbrev pub inReach : ℕ → Bool
-inReach p = 1 ≤? p && p ≤? 8
+inReach p = 1 ≤? p && p ≤? mostPages
 
 abbrev pub withPages : ℕ → Heap → Heap
 withPages p h = lent p (h .arena) (h .table) (h .bits) (h .roots)
@@ -45,15 +48,15 @@ withPages p h = lent p (h .arena) (h .table) (h .bits) (h .roots)
 abbrev pub setupRefused : Heap → Outcome
 setupRefused h = record { answer = Refused badBuffers; heap = h }
 
-unfoldable pub setupOf : ℕ → Heap → Played
-setupOf p h =
-    if inReach p then answered (model.run (withPages p h) model.Setup) (accepted (model.run (withPages p h) model.Setup .answer))
+unfoldable pub playedSetup : ℕ → Heap → Played
+playedSetup p h =
+    if inReach p then answered (model.run (withPages p h) model.Setup) (isAccepted (model.run (withPages p h) model.Setup .answer))
     else answered (setupRefused h) false
 
 -- "`H P` comes first"; "so does .. a first line that is not H"
 abbrev pub first : Line → Heap → Played
 first Bad h = playedBad 1 h
-first (Setup p) h = setupOf p h
+first (Setup p) h = playedSetup p h
 first (Call c) h = playedBad 1 h
 
 -- ".. and only once"; "or a later H"
@@ -68,11 +71,11 @@ pagesOf Bad = 0
 pagesOf (Setup p) = if inReach p then p else 0
 pagesOf (Call c) = 0
 
--- what the work of a line promises: the bytes that it wrote from `at` on, at most 66, the longest answer line, whether the run goes on, and the four
+-- what the work of a line promises: the bytes that it wrote from `at` on, no more than the longest line has, whether the run goes on, and the four
 -- buffers
-pub record Plays (o : Played) (at : ℕ) (entry exit : List ℕ) (r : Step) (a t b s : List ℕ) : Type 0 where
+pub record Plays (o : Played) (at : ℕ) (entry exit : List ℕ) (r : LineResult) (a t b s : List ℕ) : Type 0 where
   pub written : Wrote (o .text) at entry exit (r .at)
-  pub room : r .at ≤ at + 66
+  pub room : r .at ≤ at + longestAnswer
   pub more : r .more ≡ o .more
   pub arena : a ≡ o .heap .arena
   pub table : t ≡ o .heap .table

@@ -5,12 +5,13 @@ ghost use Prim.Native.Nat.{_+_, _≤_};
 ghost use lib.ListN.{length};
 ghost use Rattle.model.specs.Memory.{lent};
 ghost use Rattle.lines.specs.Lines.{readLine};
-ghost use Rattle.trace.specs.Play.{accepted, setupOf, first, later, pagesOf, Plays};
+ghost use Rattle.answers.specs.Text.{longestAnswer};
+ghost use Rattle.trace.specs.Play.{mostPages, isAccepted, playedSetup, first, later, pagesOf, Plays};
 use lines::Line;
 use model::Answer;
 
 // What the work of a line leaves: the place after what it wrote, and whether the run goes on.
-pub struct Step {
+pub struct LineResult {
     pub at: usize,
     pub more: bool,
 }
@@ -20,7 +21,7 @@ pub const MOST_PAGES: u64 = 8;
 
 // How many pages the first line asks for: 1 to 8, or 0 where it asks for none that can be had.
 pub fn pages(line: &[u8]) -> u64
-    ensures { λ r. ⌜ (r ≡ pagesOf (readLine (now (line .entry)))) × (r ≤ 8) ⌝ }
+    ensures { λ r. ⌜ (r ≡ pagesOf (readLine (now (line .entry)))) × (r ≤ mostPages) ⌝ }
 {
     let Line::Setup(p) = lines::read(line) else {
         return 0;
@@ -32,7 +33,7 @@ pub fn pages(line: &[u8]) -> u64
 }
 
 fn is_accepted(answer: Answer) -> bool
-    ensures { λ r. ⌜ r ≡ accepted answer ⌝ }
+    ensures { λ r. ⌜ r ≡ isAccepted answer ⌝ }
 {
     match answer {
         Answer::Refused(_) => false,
@@ -51,22 +52,26 @@ fn set_up(
     roots: &mut [u64],
     out: &mut [u8],
     at: usize,
-) -> Step
-    requires { ⌜ at + 66 ≤ length (now out) ⌝ }
-    ensures { λ r. ⌜ Plays (setupOf p (lent 0 (now (arena .entry)) (now (table .entry)) (now (bits .entry)) (now (roots .entry)))) at (now (out .entry)) (now (out .exit)) r (now (arena .exit)) (now (table .exit)) (now (bits .exit)) (now (roots .exit)) ⌝ }
+) -> LineResult
+    requires { ⌜ at + longestAnswer ≤ length (now out) ⌝ }
+    ensures { λ r. ⌜
+        Plays
+        (playedSetup p (lent 0 (now (arena .entry)) (now (table .entry)) (now (bits .entry)) (now (roots .entry))))
+        at (now (out .entry)) (now (out .exit)) r
+        (now (arena .exit)) (now (table .exit)) (now (bits .exit)) (now (roots .exit)) ⌝ }
 {
     if p == 0 {
         let e = answers::write_answer(out, at, Answer::Refused(units::BAD_BUFFERS));
-        return Step { at: e, more: false };
+        return LineResult { at: e, more: false };
     }
     if MOST_PAGES < p {
         let e = answers::write_answer(out, at, Answer::Refused(units::BAD_BUFFERS));
-        return Step { at: e, more: false };
+        return LineResult { at: e, more: false };
     }
     let answer = heap::setup(p, arena, table, bits, roots);
     let more = is_accepted(answer);
     let e = answers::write_answer(out, at, answer);
-    Step { at: e, more }
+    LineResult { at: e, more }
 }
 
 // The first line of a trace. The buffers are those of the pages that `pages` tells.
@@ -78,13 +83,18 @@ pub fn first_line(
     line: &[u8],
     out: &mut [u8],
     at: usize,
-) -> Step
-    requires { ⌜ at + 66 ≤ length (now out) ⌝ }
-    ensures { λ r. ⌜ Plays (first (readLine (now (line .entry))) (lent 0 (now (arena .entry)) (now (table .entry)) (now (bits .entry)) (now (roots .entry)))) at (now (out .entry)) (now (out .exit)) r (now (arena .exit)) (now (table .exit)) (now (bits .exit)) (now (roots .exit)) ⌝ }
+) -> LineResult
+    requires { ⌜ at + longestAnswer ≤ length (now out) ⌝ }
+    ensures { λ r. ⌜
+        Plays
+        (first (readLine (now (line .entry)))
+        (lent 0 (now (arena .entry)) (now (table .entry)) (now (bits .entry)) (now (roots .entry))))
+        at (now (out .entry)) (now (out .exit)) r
+        (now (arena .exit)) (now (table .exit)) (now (bits .exit)) (now (roots .exit)) ⌝ }
 {
     let Line::Setup(p) = lines::read(line) else {
         let e = answers::write_bad(out, at, 1);
-        return Step { at: e, more: false };
+        return LineResult { at: e, more: false };
     };
     set_up(p, arena, table, bits, roots, out, at)
 }
@@ -100,15 +110,20 @@ pub fn later_line(
     line: &[u8],
     out: &mut [u8],
     at: usize,
-) -> Step
-    requires { ⌜ at + 66 ≤ length (now out) ⌝ }
-    ensures { λ r. ⌜ Plays (later (readLine (now (line .entry))) number (lent p (now (arena .entry)) (now (table .entry)) (now (bits .entry)) (now (roots .entry)))) at (now (out .entry)) (now (out .exit)) r (now (arena .exit)) (now (table .exit)) (now (bits .exit)) (now (roots .exit)) ⌝ }
+) -> LineResult
+    requires { ⌜ at + longestAnswer ≤ length (now out) ⌝ }
+    ensures { λ r. ⌜
+        Plays
+        (later (readLine (now (line .entry))) number
+        (lent p (now (arena .entry)) (now (table .entry)) (now (bits .entry)) (now (roots .entry))))
+        at (now (out .entry)) (now (out .exit)) r
+        (now (arena .exit)) (now (table .exit)) (now (bits .exit)) (now (roots .exit)) ⌝ }
 {
     let Line::Call(call) = lines::read(line) else {
         let e = answers::write_bad(out, at, number);
-        return Step { at: e, more: false };
+        return LineResult { at: e, more: false };
     };
     let answer = dispatch::make(p, arena, table, bits, roots, call);
     let e = answers::write_answer(out, at, answer);
-    Step { at: e, more: true }
+    LineResult { at: e, more: true }
 }

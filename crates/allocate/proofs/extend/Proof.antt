@@ -31,8 +31,7 @@ cast-kind c = rw (c .kind-of .ensures) (kind-fits _ _)
 write-span-requires : tie.Need-write-span-requires
 write-span-requires c κs =
     let d = c .before .before .before .before in
-    let x = d .before .before .pre (not-false (d .before .before .args .fresh) (d .if1 .left)) in
-    rw (c .before .before .before .page .ensures, c .before .before .pages-for .ensures) (x .few, x .long)
+    rw (c .before .before .before .page .ensures, c .before .before .pages-for .ensures) (d .before .before .pre (not-false (d .before .before .args .fresh) (d .if1 .left)))
 
 same-length : tie.Need-same-length
 same-length c = search needs

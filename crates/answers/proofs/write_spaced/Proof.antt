@@ -1,7 +1,7 @@
 -- `answers::write_spaced` meets its contract: the space, then what `write_decimal` promises.
 use native.Mathlib.Omega.{arith}
 use lib.ListN.{length-set}
-use Rattle.answers.proofs.Bytes.{decimal-length, step}
+use Rattle.answers.proofs.Bytes.{decimal-length, byte-then}
 use borrow.Author.Needs.{needs}
 use Rattle.answers.proofs.write_spaced.Statement.{statement}
 use Rattle.answers.proofs.write_spaced.Tie as tie
@@ -19,7 +19,7 @@ same-length : tie.Need-same-length
 same-length c = simp length-set at (c .before .before .write-decimal .kept .0)
 
 returns : tie.Need-returns
-returns c = step (c .before .before .before .before .before .args .at) 32 (c .before .before .write-decimal .ensures)
+returns c = byte-then (c .before .before .before .before .before .args .at) 32 (c .before .before .write-decimal .ensures)
 
 pub write-spaced-spec : {M : Type 1} → statement M
 write-spaced-spec =

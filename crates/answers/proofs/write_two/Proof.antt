@@ -1,7 +1,7 @@
 -- `answers::write_two` meets its contract: two stores.
 use native.Mathlib.Omega.{arith}
 use lib.ListN.{length-set}
-use Rattle.answers.proofs.Bytes.{step, byte, moved}
+use Rattle.answers.proofs.Bytes.{byte-then, byte, moved}
 use borrow.Author.Needs.{needs}
 use Rattle.answers.proofs.write_two.Statement.{statement}
 use Rattle.answers.proofs.write_two.Tie as tie
@@ -22,7 +22,7 @@ same-length : tie.Need-same-length
 same-length c = search needs
 
 returns : tie.Need-returns
-returns c = step (c .args .at) (c .args .a) (moved (omega arith) (byte _ _ _))
+returns c = byte-then (c .args .at) (c .args .a) (moved (omega arith) (byte _ _ _))
 
 pub write-two-spec : {M : Type 1} → statement M
 write-two-spec =

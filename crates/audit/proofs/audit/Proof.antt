@@ -1,7 +1,8 @@
 -- Each part may rely on those before it; the first that says no refutes the audit, and the last decides. `k1` to `k5` are the places behind the
 -- tests of the five parts that said yes, `start` is the function's entry.
 use Rattle.model.proofs.Answers.{yes, no}
-use Rattle.audit.proofs.Joined.{refused, decided, tabled, spanned, filled, told, joined, paged}
+use Rattle.model.proofs.Lent.{sized-mapped, sized-consistent}
+use Rattle.audit.proofs.Joined.{refused, decided, filled, told, joined, paged}
 use borrow.Author.Needs.{needs}
 use Rattle.audit.proofs.audit.Statement.{statement}
 use Rattle.audit.proofs.audit.Tie as tie
@@ -33,7 +34,7 @@ bits-ok-requires k2 κs =
     let start = k1 .before .before .before .before .before .before in
     let states = yes (k1 .before .states-ok .result) (k1 .before .states-ok .ensures) (k1 .if1 .left) in
     let pages = yes (k2 .before .pages-ok .result) (k2 .before .pages-ok .ensures) (k2 .if2 .left) in
-    (tabled _ (start .pre) (pages .spans), record { legal = states .phase; swept = pages .swept })
+    (sized-mapped (start .pre) (pages .spans), record { legal = states .phase; swept = pages .swept })
 
 returns-3 : tie.Need-returns-3
 returns-3 c =
@@ -49,7 +50,7 @@ occupied-ok-requires k3 κs =
     let start = k1 .before .before .before .before .before .before in
     let pages = yes (k2 .before .pages-ok .result) (k2 .before .pages-ok .ensures) (k2 .if2 .left) in
     let bits = yes (k3 .before .bits-ok .result) (k3 .before .bits-ok .ensures) (k3 .if3 .left) in
-    (tabled _ (start .pre) (pages .spans), bits .0)
+    sized-consistent (start .pre) (pages .spans) (bits .0)
 
 returns-4 : tie.Need-returns-4
 returns-4 c =
@@ -65,7 +66,7 @@ roots-ok-requires k4 κs =
     let start = k1 .before .before .before .before .before .before in
     let states = yes (k1 .before .states-ok .result) (k1 .before .states-ok .ensures) (k1 .if1 .left) in
     let pages = yes (k2 .before .pages-ok .result) (k2 .before .pages-ok .ensures) (k2 .if2 .left) in
-    (spanned _ (start .pre) (pages .spans), told _ _ (pages .swept), start .pre .roots, states)
+    (sized-mapped (start .pre) (pages .spans), told _ _ (pages .swept), start .pre .roots, states)
 
 returns-5 : tie.Need-returns-5
 returns-5 c =

@@ -7,7 +7,7 @@ use Rattle.model.specs.Memory.{pageWords}
 use Rattle.model.proofs.Tests.{is-true}
 use Rattle.audit_bits.specs.Needs.{Begins}
 use Rattle.audit_bits.specs.Words.{GoodWords}
-use Rattle.audit_bits.proofs.Stretches.{Edge, Next, edge-first, edge-begins, next, good-more, words-facts, facts-words}
+use Rattle.audit_bits.proofs.Stretches.{Edge, NextStretch, edge-first, edge-begins, next, good-more, words-facts, facts-words}
 use Rattle.audit_bits.proofs.bits_ok.Statement.{statement}
 use Rattle.audit_bits.proofs.bits_ok.Tie as tie
 
@@ -28,7 +28,7 @@ begins c =
     edge-begins (l .before .before .before .pre .0 .spans) (l .loop .g) (omega arith) (l .loop .inv .1)
 
 ahead : (c : tie.In-loop Inv-loop μ-loop) → let l = c .before in
-    let a = l .before .before .before .args in Next (a .p) (a .table .now) (l .loop .g)
+    let a = l .before .before .before .args in NextStretch (a .p) (a .table .now) (l .loop .g)
 ahead c =
     let l = c .before in
     next (l .before .before .before .pre .0 .spans) (l .loop .g) (l .loop .inv .1) (begins c)

@@ -6,7 +6,7 @@ use borrow.Author.Tests.{not-true, not-false}
 use Rattle.model.proofs.Tests.{is-true}
 use Rattle.audit_bits.specs.Needs.{Begins}
 use Rattle.audit_bits.specs.Words.{Used}
-use Rattle.audit_bits.proofs.Stretches.{Edge, Next, edge-first, edge-begins, next, used-more, used-all}
+use Rattle.audit_bits.proofs.Stretches.{Edge, NextStretch, edge-first, edge-begins, next, used-more, used-all}
 use Rattle.audit_bits.proofs.occupied_ok.Statement.{statement}
 use Rattle.audit_bits.proofs.occupied_ok.Tie as tie
 
@@ -17,33 +17,33 @@ abbrev μ-loop : tie.MeasureT-loop
 μ-loop p table bits g₀ g = p - g
 
 loop-holds : tie.Need-loop-holds Inv-loop μ-loop
-loop-holds c = (omega arith, edge-first (c .before .before .pre .0 .spans), λ w m. absurd (omega arith))
+loop-holds c = (omega arith, edge-first (c .before .before .pre .spans), λ w m. absurd (omega arith))
 
 -- page g is free or the first of a span, and where the next such page is
 begins : (c : tie.In-loop Inv-loop μ-loop) → let l = c .before in
     let a = l .before .before .before .args in Begins (a .p) (a .table .now) (l .loop .g)
 begins c =
     let l = c .before in
-    edge-begins (l .before .before .before .pre .0 .spans) (l .loop .g) (omega arith) (l .loop .inv .1)
+    edge-begins (l .before .before .before .pre .spans) (l .loop .g) (omega arith) (l .loop .inv .1)
 
 ahead : (c : tie.In-loop Inv-loop μ-loop) → let l = c .before in
-    let a = l .before .before .before .args in Next (a .p) (a .table .now) (l .loop .g)
+    let a = l .before .before .before .args in NextStretch (a .p) (a .table .now) (l .loop .g)
 ahead c =
     let l = c .before in
-    next (l .before .before .before .pre .0 .spans) (l .loop .g) (l .loop .inv .1) (begins c)
+    next (l .before .before .before .pre .spans) (l .loop .g) (l .loop .inv .1) (begins c)
 
 stretch-requires : tie.Need-stretch-requires Inv-loop μ-loop
 stretch-requires c κs =
     let l = c .before in
-    omega (arith, l .before .before .before .pre .0)
+    omega (arith, l .before .before .before .pre)
 
 add-g : tie.Need-add-g Inv-loop μ-loop
-add-g c = omega (arith, c .stretch .ensures, ahead (c .before), c .before .before .before .before .before .pre .0)
+add-g c = omega (arith, c .stretch .ensures, ahead (c .before), c .before .before .before .before .before .pre)
 
 stretch-occupied-requires : tie.Need-stretch-occupied-requires Inv-loop μ-loop
 stretch-occupied-requires c κs =
     let s = c .before .before .before .before .before in
-    (s .pre .0, s .pre .1, begins (c .before))
+    (s .pre, begins (c .before))
 
 returns : tie.Need-returns Inv-loop μ-loop
 returns c =
@@ -58,14 +58,14 @@ loop-again c =
     let l = c .before .before .before .before in
     let s = l .before .before .before in
     let n = ahead (c .before .before .before) in
-    rw (c .before .before .stretch .ensures) (n .inside, n .edge, used-more (s .pre .0 .spans) (s .args .bits .now) (l .loop .g) (begins (c .before .before .before)) (l .loop .inv .2) (c .before .stretch-occupied .ensures .0 (is-true _ (not-false (c .before .stretch-occupied .result) (c .if1 .left)))))
+    rw (c .before .before .stretch .ensures) (n .inside, n .edge, used-more (s .pre .spans) (s .args .bits .now) (l .loop .g) (begins (c .before .before .before)) (l .loop .inv .2) (c .before .stretch-occupied .ensures .0 (is-true _ (not-false (c .before .stretch-occupied .result) (c .if1 .left)))))
 
 returns-2 : tie.Need-returns-2 Inv-loop μ-loop
 returns-2 c =
     let l = c .before in
     let s = l .before .before .before in
     let e : l .loop .g ≡ s .args .p = omega arith in
-    (λ _. used-all (s .pre .0 .spans) (s .args .bits .now) (l .loop .g) (omega arith) (l .loop .inv .2), λ _. tt)
+    (λ _. used-all (s .pre .spans) (s .args .bits .now) (l .loop .g) (omega arith) (l .loop .inv .2), λ _. tt)
 
 pub occupied-ok-spec : {M : Type 1} → statement M
 occupied-ok-spec =

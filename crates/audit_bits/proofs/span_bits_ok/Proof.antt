@@ -8,13 +8,13 @@ use Rattle.audit_bits.proofs.span_bits_ok.Tie as tie
 
 -- the span
 span : (s : tie.Start) → SpanAt (s .args .p) (s .args .table .now) (s .args .s)
-span s = span-at (s .pre .0 .spans) (s .args .s) (s .pre .1)
+span s = span-at (s .pre .spans) (s .args .s) (s .pre .first)
 
 page-count-requires : tie.Need-page-count-requires
-page-count-requires c κs = omega (arith, span (c .before .before), c .before .before .pre .0)
+page-count-requires c κs = omega (arith, span (c .before .before), c .before .before .pre)
 
 kind-entry-requires : tie.Need-kind-entry-requires
-kind-entry-requires c κs = omega (arith, span (c .before .before .before), c .before .before .before .pre .0)
+kind-entry-requires c κs = omega (arith, span (c .before .before .before), c .before .before .before .pre)
 
 cast-kind : tie.Need-cast-kind
 cast-kind c = search needs
@@ -45,7 +45,7 @@ blocks-ok-requires c κs =
     let s = c .before .before .before .before .before .before .before .before in
     let h = span s in
     let n = rw (c .before .before .before .before .kind-entry .ensures, c .before .before .before .before .before .page-count .ensures) at (c .before .before .before .element-words .ensures) in
-    (s .pre .0 .bitmaps, record { some = rw n (h .words); inside = rw (c .before .before .before .before .before .page-count .ensures) (h .inside) })
+    (record { few = s .pre .few; bits = s .pre .bits }, record { some = rw n (h .words); inside = rw (c .before .before .before .before .before .page-count .ensures) (h .inside) })
 
 returns : tie.Need-returns
 returns c = c .blocks-ok .ensures ∙ rw (

@@ -22,23 +22,23 @@ page-count-requires c κs = search needs
 add-to : tie.Need-add-to
 add-to c =
     let s = c .before .before .before .before .before in
-    omega (arith, span-at (s .pre .0 .spans) (s .args .g) (s .pre .2 .first (omega arith)), s .pre .0)
+    omega (arith, span-at (s .pre .0 .spans) (s .args .g) (s .pre .1 .first (omega arith)), s .pre .0)
 
 mul-to : tie.Need-mul-to
 mul-to c =
     let s = c .before .before .before .before .before in
-    omega (arith, span-at (s .pre .0 .spans) (s .args .g) (s .pre .2 .first (omega arith)), s .pre .0)
+    omega (arith, span-at (s .pre .0 .spans) (s .args .g) (s .pre .1 .first (omega arith)), s .pre .0)
 
 first-set-requires : tie.Need-first-set-requires
 first-set-requires c κs =
     let s = c .before .before .before .before .before in
-    omega (arith, span-at (s .pre .0 .spans) (s .args .g) (s .pre .2 .first (omega arith)), s .pre .0)
+    omega (arith, span-at (s .pre .0 .spans) (s .args .g) (s .pre .1 .first (omega arith)), s .pre .0)
 
 returns-2 : tie.Need-returns-2
 returns-2 c =
     let s = c .before .before .before .before .before .before in
     let n = c .before .page-count .ensures in
-    rw n (span-used (s .pre .0 .spans) (s .args .bits .now) (s .pre .1) (s .args .g) (s .pre .2 .first (omega arith)) (c .first-set .result) (rw n at (c .first-set .ensures)))
+    rw n (span-used (s .pre .0 .spans) (s .args .bits .now) (s .pre .0 .rules) (s .args .g) (s .pre .1 .first (omega arith)) (c .first-set .result) (rw n at (c .first-set .ensures)))
 
 pub stretch-occupied-spec : {M : Type 1} → statement M
 stretch-occupied-spec =

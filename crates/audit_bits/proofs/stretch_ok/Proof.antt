@@ -1,6 +1,7 @@
 -- A free page or a span, by the laws of each.
 use borrow.Author.Needs.{needs}
 use native.Mathlib.Omega.{arith}
+use Rattle.model.proofs.Lent.{mapped-span}
 use Rattle.audit_bits.proofs.Stretches.{free-words, span-good}
 use Rattle.audit_bits.proofs.stretch_ok.Statement.{statement}
 use Rattle.audit_bits.proofs.stretch_ok.Tie as tie
@@ -17,7 +18,7 @@ returns c = free-words (c .before .before .before .before .before .args .g) (ome
 span-bits-ok-requires : tie.Need-span-bits-ok-requires
 span-bits-ok-requires c κs =
     let s = c .before .before .before .before in
-    (s .pre .0, s .pre .2 .first (omega arith))
+    mapped-span (s .pre .0) (s .args .g) (s .pre .2 .first (omega arith))
 
 returns-2 : tie.Need-returns-2
 returns-2 c =

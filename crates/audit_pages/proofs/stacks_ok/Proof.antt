@@ -1,7 +1,7 @@
 -- The invariant: the stacks below s are as they should be.
 use Rattle.model.specs.Memory.{stackCount}
 use Rattle.model.proofs.Answers.{yes, no}
-use Rattle.audit_pages.specs.Stacks.{Stack}
+use Rattle.audit_pages.specs.Stacks.{GoodStack}
 use borrow.Author.Count.{below-none, below-more}
 use native.Mathlib.Omega.{arith}
 use Prim.Native.Nat.{ℕ, _-_, _<_, _≤_}
@@ -10,7 +10,7 @@ use Rattle.audit_pages.proofs.stacks_ok.Statement.{statement}
 use Rattle.audit_pages.proofs.stacks_ok.Tie as tie
 
 abbrev Inv-loop : tie.InvT-loop
-Inv-loop roots s₀ s = (s ≤ stackCount) × ((k : ℕ) → k < s → Stack roots k)
+Inv-loop roots s₀ s = (s ≤ stackCount) × ((k : ℕ) → k < s → GoodStack roots k)
 
 abbrev μ-loop : tie.MeasureT-loop
 μ-loop roots s₀ s = stackCount - s

@@ -1,7 +1,7 @@
 -- The invariant: the kept elements whose bit stands below `at` have references in their pointer words.
 use Rattle.model.specs.Memory.{pageWords}
 use Rattle.audit_words.proofs.Contents.{found-range, found-element, found-pointers, next, all}
-use Rattle.audit_words.specs.Contents.{Below}
+use Rattle.audit_words.specs.Contents.{ContentsBelow}
 use Prim.Native.Nat.{_+_, _*_, _-_, _≤_}
 use Rattle.model.proofs.Answers.{yes, no}
 use native.Mathlib.Omega.{arith}
@@ -10,7 +10,7 @@ use Rattle.audit_words.proofs.elements_ok.Statement.{statement}
 use Rattle.audit_words.proofs.elements_ok.Tie as tie
 
 abbrev Inv-loop : tie.InvT-loop
-Inv-loop p arena table bits s n from end at₀ at = (from + pageWords * s ≤ at) × (at ≤ end + 1) × Below p arena table bits s n from end at
+Inv-loop p arena table bits s n from end at₀ at = (from + pageWords * s ≤ at) × (at ≤ end + 1) × ContentsBelow p arena table bits s n from end at
 
 abbrev μ-loop : tie.MeasureT-loop
 μ-loop p arena table bits s n from end at₀ at = end + 1 - at

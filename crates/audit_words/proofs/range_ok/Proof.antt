@@ -1,5 +1,5 @@
 -- The invariant: the roots from `from` on and below i are references.
-use Rattle.audit_words.specs.Contents.{Range}
+use Rattle.audit_words.specs.Contents.{RootRange}
 use Rattle.audit_words.proofs.Ranges.{range-more}
 use Prim.Native.Nat.{_-_, _≤_}
 use Rattle.model.proofs.Answers.{yes, no}
@@ -10,7 +10,7 @@ use Rattle.audit_words.proofs.range_ok.Statement.{statement}
 use Rattle.audit_words.proofs.range_ok.Tie as tie
 
 abbrev Inv-loop : tie.InvT-loop
-Inv-loop p table bits roots swept from to i₀ i = (from ≤ i) × Range p table bits roots from i
+Inv-loop p table bits roots swept from to i₀ i = (from ≤ i) × RootRange p table bits roots from i
 
 abbrev μ-loop : tie.MeasureT-loop
 μ-loop p table bits roots swept from to i₀ i = to - i

@@ -1,6 +1,6 @@
 -- The invariant: the slots of the stacks below s are references.
-use Rattle.model.specs.Memory.{slotCount, pageBlocks}
-use Rattle.audit_words.specs.Contents.{Range}
+use Rattle.model.specs.Memory.{slotCount, stackCount}
+use Rattle.audit_words.specs.Contents.{RootRange}
 use Rattle.audit_words.proofs.Ranges.{range-join, closed-range}
 use Rattle.model.proofs.Answers.{yes, no}
 use Prim.Native.Nat.{_-_, _*_, _≤_}
@@ -11,10 +11,10 @@ use Rattle.audit_words.proofs.slots_ok.Statement.{statement}
 use Rattle.audit_words.proofs.slots_ok.Tie as tie
 
 abbrev Inv-loop : tie.InvT-loop
-Inv-loop p table bits roots swept s₀ s = (s ≤ pageBlocks) × Range p table bits roots 0 (slotCount * s)
+Inv-loop p table bits roots swept s₀ s = (s ≤ stackCount) × RootRange p table bits roots 0 (slotCount * s)
 
 abbrev μ-loop : tie.MeasureT-loop
-μ-loop p table bits roots swept s₀ s = pageBlocks - s
+μ-loop p table bits roots swept s₀ s = stackCount - s
 
 loop-holds : tie.Need-loop-holds Inv-loop μ-loop
 loop-holds c = (search needs, λ i l m. absurd (omega arith))

@@ -54,7 +54,7 @@ returns c =
     let i = c .before .before .before .before .loop .inv in
     let a = c .before .before .before .before .before .args in
     let P = scan-freed (a .p) (now (a .bits)) (λ x. c .before .before .shared-slice-known .given x .fits) (omega arith) (i .0) (i .1) in
-    omega (arith, found (isFreed (a .p) (now (a .bits))) (a .from) (a .to) (c .before .before .before .before .before .pre .2) P (omega arith))
+    omega (arith, found (isFreed (a .p) (now (a .bits))) (a .from) (a .to) (c .before .before .before .before .before .pre .1) P (omega arith))
 
 add-at : tie.Need-add-at Inv-loop μ-loop
 add-at c = search needs
@@ -72,7 +72,7 @@ loop-again c =
 returns-2 : tie.Need-returns-2 Inv-loop μ-loop
 returns-2 c =
     let a = c .before .before .args in
-    none-found (isFreed (a .p) (now (a .bits))) (a .from) (a .to) (c .before .before .pre .2) (c .before .loop .at * 64) (c .before .loop .inv .1) (omega arith)
+    none-found (isFreed (a .p) (now (a .bits))) (a .from) (a .to) (c .before .before .pre .1) (c .before .loop .at * 64) (c .before .loop .inv .1) (omega arith)
 
 pub next-freed-spec : {M : Type 1} → statement M
 next-freed-spec =

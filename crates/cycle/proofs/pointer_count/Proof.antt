@@ -24,13 +24,13 @@ mul-first-2 : tie.Need-mul-first-2
 mul-first-2 c = search needs
 
 add-first : tie.Need-add-first
-add-first c = omega (arith, lies (c .before .before .before .before .pre) .inside, c .before .before .before .before .pre .tables)
+add-first c = omega (arith, lies (c .before .before .before .before .pre) .inside, c .before .before .before .before .pre .0)
 
 add-first-clear : tie.Need-add-first-clear
-add-first-clear c = omega (arith, size-is c, lies (c .before .before .before .before .pre) .inside, c .before .before .before .before .pre .tables)
+add-first-clear c = omega (arith, size-is c, lies (c .before .before .before .before .pre) .inside, c .before .before .before .before .pre .0)
 
 first-clear-requires : tie.Need-first-clear-requires
-first-clear-requires c κs = omega (arith, size-is c, lies (c .before .before .before .before .pre) .inside, c .before .before .before .before .pre .tables)
+first-clear-requires c κs = omega (arith, size-is c, lies (c .before .before .before .before .pre) .inside, c .before .before .before .before .pre .0)
 
 sub-result : tie.Need-sub-result
 sub-result c = search needs

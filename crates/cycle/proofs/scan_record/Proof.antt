@@ -2,7 +2,7 @@
 use native.Mathlib.Omega.{arith}
 use denote.Ref.{now}
 use Rattle.model.specs.Memory.{lent}
-use Rattle.scanning.proofs.Scanning.{each-fewer}
+use Rattle.shading.proofs.References.{slice-fewer}
 use Rattle.cycle.proofs.Marking.{lies, gray-record, gray-words, record-scanned}
 use Rattle.model.proofs.Spans.{whole}
 use borrow.Author.Needs.{needs}
@@ -22,10 +22,10 @@ add-clear : tie.Need-add-clear
 add-clear c = omega (arith, lies (gray-record (c .before .before .before .before .before .before .before .pre)) .inside, c .before .before .before .before .before .before .before .pre .audited .sized)
 
 clear-requires : tie.Need-clear-requires
-clear-requires c κs = omega (arith, lies (gray-record (c .before .before .before .before .before .before .before .pre)) .inside, gray-record (c .before .before .before .before .before .before .before .pre) .tables, c .before .before .before .before .before .before .before .pre .audited .sized, whole (c .before .before .before .before .before .before .before .pre .audited .spans) (c .before .before .before .before .before .before .before .args .w) (gray-record (c .before .before .before .before .before .before .before .pre) .element) .2)
+clear-requires c κs = omega (arith, lies (gray-record (c .before .before .before .before .before .before .before .pre)) .inside, gray-record (c .before .before .before .before .before .before .before .pre) .0, c .before .before .before .before .before .before .before .pre .audited .sized, whole (c .before .before .before .before .before .before .before .pre .audited .spans) (c .before .before .before .before .before .before .before .args .w) (gray-record (c .before .before .before .before .before .before .before .pre) .1) .2)
 
 shade-slice-requires : tie.Need-shade-slice-requires
-shade-slice-requires c κs = each-fewer (gray-words (c .before .before .before .before .before .before .before .before .before .before .before .pre) _ (c .before .before .before .clear .kept .0)) (omega (arith, c .before .before .before .before .before .pointer-count .ensures (now (c .before .before .before .before .before .before .before .before .before .before .before .args .arena)) (now (c .before .before .before .before .before .before .before .before .before .before .before .args .roots))))
+shade-slice-requires c κs = slice-fewer (gray-words (c .before .before .before .before .before .before .before .before .before .before .before .pre) _ (c .before .before .before .clear .kept .0)) (omega (arith, c .before .before .before .before .before .pointer-count .ensures (now (c .before .before .before .before .before .before .before .before .before .before .before .args .arena)) (now (c .before .before .before .before .before .before .before .before .before .before .before .args .roots))))
 
 same-length : tie.Need-same-length
 same-length c = search needs

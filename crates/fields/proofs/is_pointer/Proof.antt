@@ -19,13 +19,13 @@ mul-test-2 : tie.Need-mul-test-2
 mul-test-2 c = search needs
 
 add-test : tie.Need-add-test
-add-test c = omega (arith, inside (c .before .before .before .before .pre) (c .before .before .before .before .args .f) (c .before .in-element .ensures) (c .if1 .left), c .before .before .before .before .pre .tables)
+add-test c = omega (arith, inside (c .before .before .before .before .pre) (c .before .before .before .before .args .f) (c .before .in-element .ensures) (c .if1 .left), c .before .before .before .before .pre .0)
 
 add-test-2 : tie.Need-add-test-2
-add-test-2 c = omega (arith, inside (c .before .before .before .before .pre) (c .before .before .before .before .args .f) (c .before .in-element .ensures) (c .if1 .left), c .before .before .before .before .pre .tables)
+add-test-2 c = omega (arith, inside (c .before .before .before .before .pre) (c .before .before .before .before .args .f) (c .before .in-element .ensures) (c .if1 .left), c .before .before .before .before .pre .0)
 
 test-requires : tie.Need-test-requires
-test-requires c κs = omega (arith, inside (c .before .before .before .before .pre) (c .before .before .before .before .args .f) (c .before .in-element .ensures) (c .if1 .left), c .before .before .before .before .pre .tables)
+test-requires c κs = omega (arith, inside (c .before .before .before .before .pre) (c .before .before .before .before .args .f) (c .before .in-element .ensures) (c .if1 .left), c .before .before .before .before .pre .0)
 
 returns-2 : tie.Need-returns-2
 returns-2 c = λ a s. c .test .ensures ∙ pointer-field (c .before .before .before .before .before .pre) (c .before .before .before .before .before .args .f) (inside (c .before .before .before .before .before .pre) (c .before .before .before .before .before .args .f) (c .before .before .in-element .ensures) (c .before .if1 .left) .0)

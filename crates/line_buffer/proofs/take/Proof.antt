@@ -3,19 +3,19 @@ use Prim.Native.Nat.{_-_}
 use native.Mathlib.Omega.{arith}
 use lib.ListN.{length}
 use denote.Ref.{now}
-use Rattle.line_buffer.proofs.Splitting.{Passed, none-passed, one-more, line-ends, block-ends, too-long}
+use Rattle.line_buffer.proofs.Splitting.{Copied, none-copied, one-more, line-ends, block-ends, too-long}
 use borrow.Author.Needs.{needs}
 use Rattle.line_buffer.proofs.take.Statement.{statement}
 use Rattle.line_buffer.proofs.take.Tie as tie
 
 abbrev Inv-loop : tie.InvT-loop
-Inv-loop line₀ used block from at₀ i₀ line at i = Passed line₀ used block from line at i
+Inv-loop line₀ used block from at₀ i₀ line at i = Copied line₀ used block from line at i
 
 abbrev μ-loop : tie.MeasureT-loop
 μ-loop line₀ used block from at₀ i₀ line at i = length block - i
 
 loop-holds : tie.Need-loop-holds Inv-loop μ-loop
-loop-holds c = none-passed (now (c .args .line)) (c .args .used) (now (c .args .block)) (c .args .from) (c .pre)
+loop-holds c = none-copied (now (c .args .line)) (c .args .used) (now (c .args .block)) (c .args .from) (c .pre)
 
 shared-slice-read-b : tie.Need-shared-slice-read-b Inv-loop μ-loop
 shared-slice-read-b c = search needs

@@ -4,16 +4,16 @@ use mathlib.Core.Path.{_≡_, sym}
 use native.Mathlib.Omega.{arith}
 use lib.ListN.{length}
 use lib.Seq.{length-take-le}
-use denote.Ref.{now}
 use Rattle.line_buffer.proofs.Splitting.{short, line-taken}
-use Rattle.play.specs.Run.{Sized, Fits}
+use Rattle.lines.specs.Lines.{longestLine}
+use Rattle.play.specs.Run.{ProgramMemory, InRange}
 use borrow.Author.Needs.{needs}
 use Rattle.play.proofs.feed.Statement.{statement}
 use Rattle.play.proofs.feed.Tie as tie
 
 abbrev Inv-loop : tie.InvT-loop
 Inv-loop arena₀ table₀ bits₀ roots₀ out₀ line₀ block run₀ used₀ i₀ arena table bits roots out line run used i =
-    Sized arena table bits roots out × Fits run × (length line ≡ 80) × (used ≤ 80) × (i ≤ length block)
+    ProgramMemory arena table bits roots out × InRange run × (length line ≡ longestLine) × (used ≤ longestLine) × (i ≤ length block)
 
 abbrev μ-loop : tie.MeasureT-loop
 μ-loop arena₀ table₀ bits₀ roots₀ out₀ line₀ block run₀ used₀ i₀ arena table bits roots out line run used i =
@@ -25,7 +25,7 @@ loop-holds c = search needs
 take-requires : tie.Need-take-requires Inv-loop μ-loop
 take-requires c κs =
     let i = c .before .before .loop .inv in
-    record { size = i .2; under-way = i .3; place = i .4 }
+    record { size = i .2; room = i .3; place = i .4 }
 
 enum-known-taken : tie.Need-enum-known-taken Inv-loop μ-loop
 enum-known-taken c = search needs

@@ -3,13 +3,14 @@ use mathlib.Core.Path.{_≡_}
 use native.Mathlib.Omega.{arith}
 use lib.ListN.{length}
 use borrow.Author.Needs.{needs}
-use Rattle.play.specs.Run.{Sized, Fits}
+use Rattle.lines.specs.Lines.{longestLine}
+use Rattle.play.specs.Run.{blockBytes, ProgramMemory, InRange}
 use Rattle.play.proofs.main.Statement.{statement}
 use Rattle.play.proofs.main.Tie as tie
 
 abbrev Inv-loop : tie.InvT-loop
 Inv-loop arena₀ table₀ bits₀ roots₀ line₀ block₀ out₀ run₀ turns₀ arena table bits roots line block out run turns =
-    Sized arena table bits roots out × Fits run × (length line ≡ 80) × (length block ≡ 65536)
+    ProgramMemory arena table bits roots out × InRange run × (length line ≡ longestLine) × (length block ≡ blockBytes)
 
 abbrev μ-loop : tie.MeasureT-loop
 μ-loop arena₀ table₀ bits₀ roots₀ line₀ block₀ out₀ run₀ turns₀ arena table bits roots line block out run turns =

@@ -1,8 +1,9 @@
--- `play::play_first` is safe: the pages are 8 at most, so their parts lie within the buffers.
+-- `play::play_first` is safe: the pages are at most those of its memory, so their parts lie within the buffers.
 use mathlib.Core.Path.{sym}
 use Prim.Native.Nat.{_*_}
 use native.Mathlib.Omega.{arith}
 use lib.Seq.{length-take-le}
+use Rattle.model.specs.Memory.{pageWords, entryNumbers, bitmapWords}
 use denote.Ref.{now}
 use borrow.Author.Needs.{needs}
 use Rattle.play.proofs.play_first.Statement.{statement}
@@ -24,19 +25,19 @@ slice-relend-prefix-first-line : tie.Need-slice-relend-prefix-first-line
 slice-relend-prefix-first-line c = search needs
 
 slice-aggregate-first-line : tie.Need-slice-aggregate-first-line
-slice-aggregate-first-line c = sym (length-take-le (1024 * (c .before .pages .result)) (now (c .before .before .before .before .before .before .before .before .args .arena)) (omega (arith, c .before .before .before .before .before .before .before .before .pre .0, c .before .pages .ensures .1)))
+slice-aggregate-first-line c = sym (length-take-le (pageWords * (c .before .pages .result)) (now (c .before .before .before .before .before .before .before .before .args .arena)) (omega (arith, c .before .before .before .before .before .before .before .before .pre .0, c .before .pages .ensures .1)))
 
 slice-relend-prefix-first-line-2 : tie.Need-slice-relend-prefix-first-line-2
 slice-relend-prefix-first-line-2 c = search needs
 
 slice-aggregate-first-line-2 : tie.Need-slice-aggregate-first-line-2
-slice-aggregate-first-line-2 c = sym (length-take-le (3 * (c .before .before .pages .result)) (now (c .before .before .before .before .before .before .before .before .before .args .table)) (omega (arith, c .before .before .before .before .before .before .before .before .before .pre .0, c .before .before .pages .ensures .1)))
+slice-aggregate-first-line-2 c = sym (length-take-le (entryNumbers * (c .before .before .pages .result)) (now (c .before .before .before .before .before .before .before .before .before .args .table)) (omega (arith, c .before .before .before .before .before .before .before .before .before .pre .0, c .before .before .pages .ensures .1)))
 
 slice-relend-prefix-first-line-3 : tie.Need-slice-relend-prefix-first-line-3
 slice-relend-prefix-first-line-3 c = search needs
 
 slice-aggregate-first-line-3 : tie.Need-slice-aggregate-first-line-3
-slice-aggregate-first-line-3 c = sym (length-take-le (64 * (c .before .before .before .pages .result)) (now (c .before .before .before .before .before .before .before .before .before .before .args .bits)) (omega (arith, c .before .before .before .before .before .before .before .before .before .before .pre .0, c .before .before .before .pages .ensures .1)))
+slice-aggregate-first-line-3 c = sym (length-take-le (bitmapWords * (c .before .before .before .pages .result)) (now (c .before .before .before .before .before .before .before .before .before .before .args .bits)) (omega (arith, c .before .before .before .before .before .before .before .before .before .before .pre .0, c .before .before .before .pages .ensures .1)))
 
 first-line-requires : tie.Need-first-line-requires
 first-line-requires c κs = search needs

@@ -1,8 +1,9 @@
--- `play::play_later` is safe: the pages are 8 at most, so their parts lie within the buffers.
+-- `play::play_later` is safe: the pages are at most those of its memory, so their parts lie within the buffers.
 use mathlib.Core.Path.{sym}
 use Prim.Native.Nat.{_*_}
 use native.Mathlib.Omega.{arith}
 use lib.Seq.{length-take-le}
+use Rattle.model.specs.Memory.{pageWords, entryNumbers, bitmapWords}
 use denote.Ref.{now}
 use borrow.Author.Needs.{needs}
 use Rattle.play.proofs.play_later.Statement.{statement}
@@ -21,19 +22,19 @@ slice-relend-prefix-later-line : tie.Need-slice-relend-prefix-later-line
 slice-relend-prefix-later-line c = search needs
 
 slice-aggregate-later-line : tie.Need-slice-aggregate-later-line
-slice-aggregate-later-line c = sym (length-take-le (1024 * (c .before .before .before .before .before .before .before .args .p)) (now (c .before .before .before .before .before .before .before .args .arena)) (omega (arith, c .before .before .before .before .before .before .before .pre .0, c .before .before .before .before .before .before .before .pre .1 .0)))
+slice-aggregate-later-line c = sym (length-take-le (pageWords * (c .before .before .before .before .before .before .before .args .p)) (now (c .before .before .before .before .before .before .before .args .arena)) (omega (arith, c .before .before .before .before .before .before .before .pre .0, c .before .before .before .before .before .before .before .pre .1 .0)))
 
 slice-relend-prefix-later-line-2 : tie.Need-slice-relend-prefix-later-line-2
 slice-relend-prefix-later-line-2 c = search needs
 
 slice-aggregate-later-line-2 : tie.Need-slice-aggregate-later-line-2
-slice-aggregate-later-line-2 c = sym (length-take-le (3 * (c .before .before .before .before .before .before .before .before .args .p)) (now (c .before .before .before .before .before .before .before .before .args .table)) (omega (arith, c .before .before .before .before .before .before .before .before .pre .0, c .before .before .before .before .before .before .before .before .pre .1 .0)))
+slice-aggregate-later-line-2 c = sym (length-take-le (entryNumbers * (c .before .before .before .before .before .before .before .before .args .p)) (now (c .before .before .before .before .before .before .before .before .args .table)) (omega (arith, c .before .before .before .before .before .before .before .before .pre .0, c .before .before .before .before .before .before .before .before .pre .1 .0)))
 
 slice-relend-prefix-later-line-3 : tie.Need-slice-relend-prefix-later-line-3
 slice-relend-prefix-later-line-3 c = search needs
 
 slice-aggregate-later-line-3 : tie.Need-slice-aggregate-later-line-3
-slice-aggregate-later-line-3 c = sym (length-take-le (64 * (c .before .before .before .before .before .before .before .before .before .args .p)) (now (c .before .before .before .before .before .before .before .before .before .args .bits)) (omega (arith, c .before .before .before .before .before .before .before .before .before .pre .0, c .before .before .before .before .before .before .before .before .before .pre .1 .0)))
+slice-aggregate-later-line-3 c = sym (length-take-le (bitmapWords * (c .before .before .before .before .before .before .before .before .before .args .p)) (now (c .before .before .before .before .before .before .before .before .before .args .bits)) (omega (arith, c .before .before .before .before .before .before .before .before .before .pre .0, c .before .before .before .before .before .before .before .before .before .pre .1 .0)))
 
 later-line-requires : tie.Need-later-line-requires
 later-line-requires c κs = search needs

@@ -47,7 +47,7 @@ find-requires : tie.Need-find-requires
 find-requires c κs =
     let d = c .before .before in
     let s = d .before .before .before .before .before .before .before in
-    (s .pre, rw (c .pages-for .ensures) (size-pages (s .args .size) (s .args .pointers) (sym (d .before .size-refusal .ensures) ∙ d .if2 .left)))
+    (s .pre .0, s .pre .1, rw (c .pages-for .ensures) (size-pages (s .args .size) (s .args .pointers) (sym (d .before .size-refusal .ensures) ∙ d .if2 .left)))
 
 returns-3 : tie.Need-returns-3
 returns-3 c a =

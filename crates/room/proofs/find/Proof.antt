@@ -16,13 +16,13 @@ span-with-room-requires c κs = search needs
 free-element-requires : tie.Need-free-element-requires
 free-element-requires c κs =
     let s = c .before .before .before .before .before in
-    span-there [] [] (s .args .kind) (s .pre .0 .searchable) (c .before .span-with-room .ensures [] []) (c .if1 .taken)
+    span-there [] [] (s .args .kind) (s .pre .0) (c .before .span-with-room .ensures [] []) (c .if1 .taken)
 
 element-words-requires : tie.Need-element-words-requires
 element-words-requires c κs =
     let d = c .before in
     let s = d .before .before .before .before .before in
-    entry (span-there [] [] (s .args .kind) (s .pre .0 .searchable) (d .before .span-with-room .ensures [] []) (d .if1 .taken))
+    entry (span-there [] [] (s .args .kind) (s .pre .0) (d .before .span-with-room .ensures [] []) (d .if1 .taken))
 
 first-word-requires : tie.Need-first-word-requires
 first-word-requires c κs = search needs
@@ -31,14 +31,14 @@ mul-t15 : tie.Need-mul-t15
 mul-t15 c =
     let d = c .before .before .before in
     let s = d .before .before .before .before .before in
-    let i = place-inside [] [] (s .args .kind) (s .pre .0 .searchable) (d .before .span-with-room .ensures [] []) (d .if1 .taken) (c .before .before .free-element .ensures [] []) (c .before .element-words .ensures) in
+    let i = place-inside [] [] (s .args .kind) (s .pre .0) (d .before .span-with-room .ensures [] []) (d .if1 .taken) (c .before .before .free-element .ensures [] []) (c .before .element-words .ensures) in
     omega (arith, i)
 
 add-t16 : tie.Need-add-t16
 add-t16 c =
     let d = c .before .before .before .before in
     let s = d .before .before .before .before .before in
-    let i = place-inside [] [] (s .args .kind) (s .pre .0 .searchable) (d .before .span-with-room .ensures [] []) (d .if1 .taken) (c .before .before .before .free-element .ensures [] []) (c .before .before .element-words .ensures) in
+    let i = place-inside [] [] (s .args .kind) (s .pre .0) (d .before .span-with-room .ensures [] []) (d .if1 .taken) (c .before .before .before .free-element .ensures [] []) (c .before .before .element-words .ensures) in
     omega (arith, i, c .before .first-word .ensures)
 
 returns : tie.Need-returns
@@ -46,7 +46,7 @@ returns c a =
     let d = c .before .before .before .before in
     let s = d .before .before .before .before .before in
     let o = now (s .args .roots) in
-    found-at a o (s .args .kind) (s .pre .0 .searchable) (d .before .span-with-room .ensures a o) (d .if1 .taken) (s .args .n) (c .before .before .before .free-element .ensures a o) (c .before .before .element-words .ensures) (c .before .first-word .ensures)
+    found-at a o (s .args .kind) (s .pre .0) (d .before .span-with-room .ensures a o) (d .if1 .taken) (s .args .n) (c .before .before .before .free-element .ensures a o) (c .before .before .element-words .ensures) (c .before .first-word .ensures)
 
 best-run-requires : tie.Need-best-run-requires
 best-run-requires c κs = search needs

@@ -1,7 +1,6 @@
 -- Scanned already, or all values shaded.
-use native.Mathlib.Omega.{arith}
 use denote.Ref.{now}
-use Rattle.scanning.proofs.Scanning.{each-fewer, scan-none, scan-all}
+use Rattle.scanning.proofs.Scanning.{scan-none, scan-all}
 use borrow.Author.Needs.{needs}
 use Rattle.scanning.proofs.scan.Statement.{statement}
 use Rattle.scanning.proofs.scan.Tie as tie
@@ -15,10 +14,10 @@ slice-read-if1 c = search needs
 returns : tie.Need-returns
 returns c =
     let a = c .before .before .before .before .before .args in
-    scan-none (a .p) (now (a .table)) (now (a .bits)) (now (a .roots)) (a .from) (a .at) (c .if1 .taken)
+    scan-none (a .p) (now (a .table)) (now (a .bits)) (now (a .roots)) (a .from) (a .n) (a .at) (c .if1 .taken)
 
 shade-slice-requires : tie.Need-shade-slice-requires
-shade-slice-requires c κs = each-fewer (c .before .before .before .before .before .before .before .pre .values) (omega arith)
+shade-slice-requires c κs = c .before .before .before .before .before .before .before .pre .values
 
 mul-roots : tie.Need-mul-roots
 mul-roots c = search needs
@@ -35,7 +34,7 @@ same-length-2 c = search needs
 returns-2 : tie.Need-returns-2
 returns-2 c =
     let a = c .before .before .before .before .before .before .before .before .before .before .args in
-    scan-all (a .p) (now (a .table)) (now (a .bits)) (now (a .roots)) (a .from) (a .at) (c .before .before .before .before .before .if1 .left) (c .before .before .shade-slice .ensures)
+    scan-all (a .p) (now (a .table)) (now (a .bits)) (now (a .roots)) (a .from) (a .n) (a .at) (c .before .before .before .before .before .if1 .left) (c .before .before .shade-slice .ensures)
 
 pub scan-spec : {M : Type 1} → statement M
 scan-spec =

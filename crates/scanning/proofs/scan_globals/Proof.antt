@@ -15,7 +15,7 @@ returns c =
     λ arena. globals-refused (a .p) (now (a .table)) (now (a .bits)) (now (a .roots)) arena (c .if1 .taken)
 
 scan-requires : tie.Need-scan-requires
-scan-requires c κs = scannable (c .before .before .before .before .before .before .before .pre .1) _ _ (omega arith) (omega arith)
+scan-requires c κs = scannable (c .before .before .before .before .before .before .before .pre .1) _ _ _ (omega arith) (omega arith)
 
 same-length : tie.Need-same-length
 same-length c = search needs

@@ -32,7 +32,7 @@ add-scan : tie.Need-add-scan
 add-scan c = omega (arith, below (c .before .before))
 
 scan-requires : tie.Need-scan-requires
-scan-requires c κs = scannable (c .before .before .before .before .before .before .before .before .pre .1) _ _ (omega (arith, below (c .before .before))) (omega (arith, below (c .before .before)))
+scan-requires c κs = scannable (c .before .before .before .before .before .before .before .before .pre .1) _ _ _ (omega (arith, below (c .before .before))) (omega (arith, below (c .before .before)))
 
 same-length-2 : tie.Need-same-length-2
 same-length-2 c = search needs

@@ -34,7 +34,7 @@ add-k c = search needs
 shade-requires : tie.Need-shade-requires Inv-loop μ-loop
 shade-requires c κs =
     let t = c .before .before .before .before .before .before .before .pre .tables in
-    record { tables = record { high = t .high; table = t .table; bits = c .before .before .before .loop .inv .2 ∙ t .bits }; named = λ n. c .before .before .before .before .before .before .before .pre .each (c .before .before .before .loop .k) (omega arith) n }
+    record { tables = record { few = t .few; table = t .table; bits = c .before .before .before .loop .inv .2 ∙ t .bits }; named = λ n. c .before .before .before .before .before .before .before .pre .each (c .before .before .before .loop .k) (omega arith) n }
 
 add-count : tie.Need-add-count Inv-loop μ-loop
 add-count c = let o = at-most-one (c .before .before .shade .ensures) in omega (arith, c .before .before .before .before .before .before .loop, c .before .before .before .before .before .before .before .before .before .before)

@@ -46,7 +46,7 @@ add-table-2 c =
     let x = c .before .before .before .before in
     let l = x .before .loop in
     let a = x .before .before .before in
-    let s = untouched _ _ _ _ _ (l .inv .1) (a .pre .long) (x .loop-test .taken) in
+    let s = untouched _ _ _ _ _ (l .inv .1) (a .pre .table) (x .loop-test .taken) in
     let o = c .before .before .owner .ensures in
     omega (arith, s .kinds, a .pre .room (l .page) (x .loop-test .taken) (sym (s .owners) ∙ sym o ∙ c .before .if1 .taken))
 
@@ -61,7 +61,7 @@ unfolding kindEntry
 loop-again c =
     let x = c .before .before .before .before in
     let o = c .before .before .owner .ensures in
-    (search needs, flagged _ _ _ _ (x .before .loop .inv .1) (x .before .before .before .pre .long) (x .loop-test .taken) (sym o ∙ c .before .if1 .taken))
+    (search needs, flagged _ _ _ _ (x .before .loop .inv .1) (x .before .before .before .pre .table) (x .loop-test .taken) (sym o ∙ c .before .if1 .taken))
 
 loop-less-2 : tie.Need-loop-less-2 Inv-loop μ-loop
 loop-less-2 c = search needs
@@ -70,7 +70,7 @@ loop-again-2 : tie.Need-loop-again-2 Inv-loop μ-loop
 loop-again-2 c =
     let x = c .before .before .before in
     let o = c .before .owner .ensures in
-    (search needs, left _ _ _ _ (x .before .loop .inv .1) (x .before .before .before .pre .long) (x .loop-test .taken) (λ e. c .if1 .left (o ∙ e)))
+    (search needs, left _ _ _ _ (x .before .loop .inv .1) (x .before .before .before .pre .table) (x .loop-test .taken) (λ e. c .if1 .left (o ∙ e)))
 
 same-length : tie.Need-same-length Inv-loop μ-loop
 same-length c = search needs

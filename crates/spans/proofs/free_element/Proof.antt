@@ -13,7 +13,7 @@ elements-requires : tie.Need-elements-requires
 elements-requires c κs = entry (c .before .before .before .pre)
 
 mul-first-free : tie.Need-mul-first-free
-mul-first-free c = let s = c .before .before .before .before in omega (arith, shape (s .pre) .pages, inside (s .pre), s .pre .searchable .few)
+mul-first-free c = let s = c .before .before .before .before in omega (arith, shape (s .pre) .pages, inside (s .pre), s .pre .few)
 
 starts-requires : tie.Need-starts-requires
 starts-requires c κs = search needs

@@ -4,6 +4,7 @@ use denote.Ref.{now}
 use borrow.Author.Tests.{eq-eqb, ne-eqb}
 use borrow.Author.Needs.{needs}
 use Rattle.model.specs.Spans.{kindEntry}
+use Rattle.model.proofs.Lent.{mapped-span}
 use Rattle.spans.proofs.Lie.{entry}
 use Rattle.spans.proofs.has_room.Statement.{statement}
 use Rattle.spans.proofs.has_room.Tie as tie
@@ -33,7 +34,7 @@ free-element-requires c κs = search needs
 elements-requires : tie.Need-elements-requires
 elements-requires c κs =
     let d = c .before .before .before in
-    entry (record { searchable = d .before .before .before .before .pre .0; first = sym (d .before .owner .ensures) ∙ d .if1 .left })
+    entry (mapped-span (d .before .before .before .before .pre .0) _ (sym (d .before .owner .ensures) ∙ d .if1 .left))
 
 returns-3 : tie.Need-returns-3
 returns-3 c a o =

@@ -4,7 +4,7 @@ use mathlib.Core.Path.{_≡_}
 use native.Mathlib.Omega.{arith}
 use denote.Ref.{now}
 use Rattle.model.specs.Memory.{pageWords}
-use Rattle.sweeping.proofs.Places.{placed}
+use Rattle.sweeping.proofs.Bounds.{bounds}
 use Rattle.sweeping.proofs.Pointers.{Cleared, begun, cleared-next, cleared-all, noscan-same, freed-whole}
 use Rattle.model.specs.Spans.{elementWords}
 use Rattle.model.proofs.Spans.{fits}
@@ -30,7 +30,7 @@ at-whole c =
     rw (c .before .before .before .before .before .page-count .ensures) (freed-whole (a .p) (now (a .table)) (now (a .bits)) (a .s) (c .before .before .before .before .before .before .before .before .before .before .pre) (λ x. c .before .before .before .before .before .before .before .before .slice-known .given x .fits) (c .before .loop .at) (i .low) h (i .next h))
 
 kind-entry-requires : tie.Need-kind-entry-requires Inv-loop μ-loop
-kind-entry-requires c κs = omega (arith, placed (c .before .before .pre))
+kind-entry-requires c κs = omega (arith, bounds (c .before .before .pre))
 
 cast-kind : tie.Need-cast-kind Inv-loop μ-loop
 cast-kind c = search needs
@@ -44,10 +44,10 @@ returns c =
     noscan-same (a .p) (now (a .table)) (now (a .bits)) (a .s) (c .before .before .before .before .pre) (λ x. c .before .before .slice-known .given x .fits) (rw (c .before .kind-entry .ensures) at (c .if1 .taken))
 
 page-count-requires : tie.Need-page-count-requires Inv-loop μ-loop
-page-count-requires c κs = omega (arith, placed (c .before .before .before .before .pre))
+page-count-requires c κs = omega (arith, bounds (c .before .before .before .before .pre))
 
 element-words-requires : tie.Need-element-words-requires Inv-loop μ-loop
-element-words-requires c κs = omega (arith, placed (c .before .before .before .before .before .pre), c .page-count .ensures, c .before .before .kind-entry .ensures)
+element-words-requires c κs = omega (arith, bounds (c .before .before .before .before .before .pre), c .page-count .ensures, c .before .before .kind-entry .ensures)
 
 mul-pointers : tie.Need-mul-pointers Inv-loop μ-loop
 mul-pointers c = omega (arith, c .before .before .before .before .before .before .pre)
@@ -56,16 +56,16 @@ mul-pointers-2 : tie.Need-mul-pointers-2 Inv-loop μ-loop
 mul-pointers-2 c = omega (arith, c .before .before .before .before .before .before .pre)
 
 add-end : tie.Need-add-end Inv-loop μ-loop
-add-end c = omega (arith, placed (c .before .before .before .before .before .before .pre), c .before .page-count .ensures)
+add-end c = omega (arith, bounds (c .before .before .before .before .before .before .pre), c .before .page-count .ensures)
 
 mul-end : tie.Need-mul-end Inv-loop μ-loop
-mul-end c = omega (arith, placed (c .before .before .before .before .before .before .pre), c .before .page-count .ensures)
+mul-end c = omega (arith, bounds (c .before .before .before .before .before .before .pre), c .before .page-count .ensures)
 
 mul-next-freed : tie.Need-mul-next-freed Inv-loop μ-loop
-mul-next-freed c = omega (arith, placed (c .before .before .before .before .before .before .before .pre))
+mul-next-freed c = omega (arith, bounds (c .before .before .before .before .before .before .before .pre))
 
 next-freed-requires : tie.Need-next-freed-requires Inv-loop μ-loop
-next-freed-requires c κs = omega (arith, placed (c .before .before .before .before .before .before .before .pre), c .before .before .page-count .ensures)
+next-freed-requires c κs = omega (arith, bounds (c .before .before .before .before .before .before .before .pre), c .before .before .page-count .ensures)
 
 loop-holds : tie.Need-loop-holds Inv-loop μ-loop
 loop-holds c =
@@ -73,19 +73,19 @@ loop-holds c =
     begun (a .p) (now (a .table)) (now (a .bits)) (a .s) (c .before .before .before .before .before .before .before .before .pre) (λ x. c .before .before .before .before .before .before .slice-known .given x .fits) (c .next-freed .result) (rw (c .before .before .before .page-count .ensures) at (c .next-freed .ensures))
 
 add-clear-range : tie.Need-add-clear-range Inv-loop μ-loop
-add-clear-range c = omega (arith, at-whole (c .before), placed (c .before .before .before .before .before .before .before .before .before .before .before .pre), c .before .before .before .before .before .before .page-count .ensures)
+add-clear-range c = omega (arith, at-whole (c .before), bounds (c .before .before .before .before .before .before .before .before .before .before .before .pre), c .before .before .before .before .before .before .page-count .ensures)
 
 clear-range-requires : tie.Need-clear-range-requires Inv-loop μ-loop
-clear-range-requires c κs = omega (arith, at-whole (c .before), size-is (c .before .before .before .before .before), placed (c .before .before .before .before .before .before .before .before .before .before .before .pre), c .before .before .before .before .before .before .page-count .ensures)
+clear-range-requires c κs = omega (arith, at-whole (c .before), size-is (c .before .before .before .before .before), bounds (c .before .before .before .before .before .before .before .before .before .before .before .pre), c .before .before .before .before .before .before .page-count .ensures)
 
 add-next-freed : tie.Need-add-next-freed Inv-loop μ-loop
-add-next-freed c = omega (arith, at-whole (c .before .before .before .before .before), size-is (c .before .before .before .before .before .before .before .before .before), placed (c .before .before .before .before .before .before .before .before .before .before .before .before .before .before .before .pre), c .before .before .before .before .before .before .before .before .before .before .page-count .ensures)
+add-next-freed c = omega (arith, at-whole (c .before .before .before .before .before), size-is (c .before .before .before .before .before .before .before .before .before), bounds (c .before .before .before .before .before .before .before .before .before .before .before .before .before .before .before .pre), c .before .before .before .before .before .before .before .before .before .before .page-count .ensures)
 
 next-freed-requires-2 : tie.Need-next-freed-requires-2 Inv-loop μ-loop
-next-freed-requires-2 c κs = omega (arith, at-whole (c .before .before .before .before .before), size-is (c .before .before .before .before .before .before .before .before .before), placed (c .before .before .before .before .before .before .before .before .before .before .before .before .before .before .before .pre), c .before .before .before .before .before .before .before .before .before .before .page-count .ensures, c .before .before .before .clear-range .kept .0)
+next-freed-requires-2 c κs = omega (arith, at-whole (c .before .before .before .before .before), size-is (c .before .before .before .before .before .before .before .before .before), bounds (c .before .before .before .before .before .before .before .before .before .before .before .before .before .before .before .pre), c .before .before .before .before .before .before .before .before .before .before .page-count .ensures, c .before .before .before .clear-range .kept .0)
 
 loop-less : tie.Need-loop-less Inv-loop μ-loop
-loop-less c = omega (arith, c .next-freed2 .ensures, size-is (c .before .before .before .before .before .before .before .before .before .before), fits (c .before .before .before .before .before .before .before .before .before .before .before .before .before .before .before .before .pre .spans) (c .before .before .before .before .before .before .before .before .before .before .before .before .before .before .before .before .args .s) (c .before .before .before .before .before .before .before .before .before .before .before .before .before .before .before .before .pre .starts) .words, c .before .before .before .before .before .before .loop-test .taken)
+loop-less c = omega (arith, c .next-freed2 .ensures, size-is (c .before .before .before .before .before .before .before .before .before .before), fits (c .before .before .before .before .before .before .before .before .before .before .before .before .before .before .before .before .pre .consistent .spans) (c .before .before .before .before .before .before .before .before .before .before .before .before .before .before .before .before .args .s) (c .before .before .before .before .before .before .before .before .before .before .before .before .before .before .before .before .pre .starts) .words, c .before .before .before .before .before .before .loop-test .taken)
 
 loop-again : tie.Need-loop-again Inv-loop μ-loop
 loop-again c =

@@ -1,50 +1,50 @@
 -- Two counts tell what is freed and whether something is left; then the bitmaps are swept, and the table's entry.
 use native.Mathlib.Omega.{arith}
 use denote.Ref.{now}
-use Rattle.sweeping.proofs.Places.{placed}
-use Rattle.sweeping.proofs.Swept.{Counted, counted, span-freed, span-kept}
+use Rattle.sweeping.proofs.Bounds.{bounds}
+use Rattle.sweeping.proofs.Swept.{SpanCounts, counted, span-freed, span-kept}
 use borrow.Author.Needs.{needs}
 use Rattle.sweeping.proofs.sweep_span.Statement.{statement}
 use Rattle.sweeping.proofs.sweep_span.Tie as tie
 
-counts : (c : tie.After-count-range2) → Counted (c .before .before .before .before .before .before .before .before .args .p) (now (c .before .before .before .before .before .before .before .before .args .table)) (now (c .before .before .before .before .before .before .before .before .args .bits)) (c .before .before .before .before .before .before .before .before .args .s) (c .before .before .before .before .before .before .before .before .pre) (c .before .before .count-range .result) (c .count-range2 .result)
+counts : (c : tie.After-count-range2) → SpanCounts (c .before .before .before .before .before .before .before .before .args .p) (now (c .before .before .before .before .before .before .before .before .args .table)) (now (c .before .before .before .before .before .before .before .before .args .bits)) (c .before .before .before .before .before .before .before .before .args .s) (c .before .before .before .before .before .before .before .before .pre) (c .before .before .count-range .result) (c .count-range2 .result)
 counts c =
     let a = c .before .before .before .before .before .before .before .before .args in
     counted (a .p) (now (a .table)) (now (a .bits)) (a .s) (c .before .before .before .before .before .before .before .before .pre) (c .before .before .count-range .result) (c .count-range2 .result)
     (rw (c .before .before .before .before .page-count .ensures) at (c .before .before .count-range .ensures)) (rw (c .before .before .before .before .page-count .ensures) at (c .count-range2 .ensures))
 
 page-count-requires : tie.Need-page-count-requires
-page-count-requires c κs = omega (arith, placed (c .before .before .before .pre))
+page-count-requires c κs = omega (arith, bounds (c .before .before .before .pre))
 
 mul-first : tie.Need-mul-first
-mul-first c = omega (arith, placed (c .before .before .before .before .pre))
+mul-first c = omega (arith, bounds (c .before .before .before .before .pre))
 
 mul-words : tie.Need-mul-words
-mul-words c = omega (arith, placed (c .before .before .before .before .pre), c .page-count .ensures)
+mul-words c = omega (arith, bounds (c .before .before .before .before .pre), c .page-count .ensures)
 
 count-range-requires : tie.Need-count-range-requires
-count-range-requires c κs = omega (arith, placed (c .before .before .before .before .before .pre), c .before .page-count .ensures)
+count-range-requires c κs = omega (arith, bounds (c .before .before .before .before .before .pre), c .before .page-count .ensures)
 
 mul-count-range : tie.Need-mul-count-range
-mul-count-range c = omega (arith, placed (c .before .before .before .before .before .before .before .pre))
+mul-count-range c = omega (arith, bounds (c .before .before .before .before .before .before .before .pre))
 
 add-count-range : tie.Need-add-count-range
-add-count-range c = omega (arith, placed (c .before .before .before .before .before .before .before .pre))
+add-count-range c = omega (arith, bounds (c .before .before .before .before .before .before .before .pre))
 
 count-range-requires-2 : tie.Need-count-range-requires-2
-count-range-requires-2 c κs = omega (arith, placed (c .before .before .before .before .before .before .before .pre), c .before .before .before .page-count .ensures)
+count-range-requires-2 c κs = omega (arith, bounds (c .before .before .before .before .before .before .before .pre), c .before .before .before .page-count .ensures)
 
 sub-freed : tie.Need-sub-freed
 sub-freed c = counts c .less
 
 add-start : tie.Need-add-start
-add-start c = omega (arith, placed (c .before .before .before .before .before .before .before .before .pre))
+add-start c = omega (arith, bounds (c .before .before .before .before .before .before .before .before .pre))
 
 sweep-bits-requires : tie.Need-sweep-bits-requires
 sweep-bits-requires c κs = search needs
 
 free-span-requires : tie.Need-free-span-requires
-free-span-requires c κs = omega (arith, placed (c .before .before .before .before .before .before .before .before .before .before .before .before .before .before .before .pre), c .before .before .before .before .before .before .before .before .before .before .before .page-count .ensures)
+free-span-requires c κs = omega (arith, bounds (c .before .before .before .before .before .before .before .before .before .before .before .before .before .before .before .pre), c .before .before .before .before .before .before .before .before .before .before .before .page-count .ensures)
 
 same-length : tie.Need-same-length
 same-length c = search needs
@@ -58,7 +58,7 @@ returns c =
     span-freed (a .p) (now (a .table)) (now (a .bits)) (a .s) (c .before .before .before .before .before .before .before .before .before .before .before .before .before .before .before .before .before .before .pre) (counts (c .before .before .before .before .before .before .before .before .before .before)) (omega (arith, c .before .before .before .before .if1 .taken)) (c .before .before .before .before .before .before .before .before .before .before .before .before .before .before .page-count .ensures) (c .before .before .free-span .ensures) (c .before .before .before .before .before .before .before .sweep-bits .ensures)
 
 make-swept-requires : tie.Need-make-swept-requires
-make-swept-requires c κs = record { long = omega (arith, placed (c .before .before .before .before .before .before .before .before .before .before .before .before .before .before .before .pre)); first = c .before .before .before .before .before .before .before .before .before .before .before .before .before .before .before .pre .starts }
+make-swept-requires c κs = record { entry = omega (arith, bounds (c .before .before .before .before .before .before .before .before .before .before .before .before .before .before .before .pre)); first = c .before .before .before .before .before .before .before .before .before .before .before .before .before .before .before .pre .starts }
 
 same-length-3 : tie.Need-same-length-3
 same-length-3 c = search needs
