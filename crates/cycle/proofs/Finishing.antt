@@ -15,7 +15,7 @@ use Rattle.model.specs.Spans.{putPages}
 use Rattle.model.specs.Cycle.{firstGray, finishRefusal, finish, unsweptPage}
 use Rattle.model.specs.declared.Answer.the-variants.{Refused, Done}
 use Rattle.model.proofs.Bounded.{all-no, all-from}
-use Rattle.model.proofs.Outcomes.{refused, accepted}
+use Rattle.model.proofs.Outcomes.{refused, not-refused}
 use Rattle.model.specs.Facts.{Audited}
 use Rattle.span_entries.specs.Needs.{Flaggable}
 
@@ -50,7 +50,7 @@ module _ (p : ℕ) (a t b r : List ℕ) where
 
     pub finished : n ≡ 0 → {t' : List ℕ} → t' ≡ putPages 0 p (unsweptPage t) t → Meets (finish (lent p a t b r)) Done a t' b (set r phaseAt sweep)
     unfolding finish
-    finished e f = rw f (accepted _ (lent p a t b r) _ _ (sym m ∙ e))
+    finished e f = rw f (not-refused _ (lent p a t b r) _ _ (sym m ∙ e))
 
 -- the kinds of audited spans have room for the flag
 pub flaggable : {p : ℕ} {a t b r : List ℕ} → Audited (lent p a t b r) → Flaggable p t

@@ -14,7 +14,7 @@ use Rattle.model.specs.declared.Answer.the-variants.{Refused, Done}
 use Rattle.model.proofs.Tests.{of-true, is-true}
 use Rattle.model.specs.Facts.{Sized}
 use Rattle.model.proofs.Audit.{sized, sized-good}
-use Rattle.model.proofs.Outcomes.{refused, accepted}
+use Rattle.model.proofs.Outcomes.{refused, not-refused}
 
 pub setup-refused : (h : Heap) (b : Bool) → (T b ↔ Sized h) → not b ≡ true → Meets (run h Setup) (Refused badBuffers) (h .arena) (h .table) (h .bits) (h .roots)
 unfolding setup
@@ -29,4 +29,4 @@ pub setup-done : (h : Heap) → Sized h → Meets (run h Setup) Done (h .arena) 
 unfolding setup fresh
 setup-done h Z =
     let g = of-true (goodBuffers h) (sized-good h Z) in
-    rw (Z .table, Z .bits, Z .roots) (accepted (buffersRefusal h) h Done (fresh h) (unfold _given_ in rw g))
+    rw (Z .table, Z .bits, Z .roots) (not-refused (buffersRefusal h) h Done (fresh h) (unfold _given_ in rw g))

@@ -16,7 +16,7 @@ use Rattle.marking.specs.Claim
 use Rattle.marking.proofs.Phases.{start-marks, end-swept, marking-goes}
 use Rattle.model.specs.Memory.{Heap}
 use Rattle.history.specs.Ledger.{onPages}
-use Rattle.history.specs.Demand.{Stage, eventsOf, endOf, frees, freesIn, freedSince, Cycle}
+use Rattle.history.specs.Demand.{Stage, eventsOf, endOf, frees, freesIn, freesSince, Cycle}
 use Rattle.history.specs.Beyond.{Marking, Whole, Parts}
 use Rattle.history.proofs.View.{view}
 
@@ -69,8 +69,8 @@ unfolding freesIn Claim.freedDuring steps
 during none x L = refl
 during {P} (more {h} {h′} {s} {ss} y A) x L = rw (frees-is x L (onPages P h) (s .event) (onPages P (s .heap)), during A x (feed (s .event) L))
 
-pub since : {P : ℕ} {h h′ : Heap} {ss : List Stage} (A : Along P h ss h′) (x n : ℕ) (L : Ledger) → freedSince P x n L h ss ≡ Claim.freedSince x n L (steps A)
-unfolding freedSince Claim.freedSince steps
+pub since : {P : ℕ} {h h′ : Heap} {ss : List Stage} (A : Along P h ss h′) (x n : ℕ) (L : Ledger) → freesSince P x n L h ss ≡ Claim.freedSince x n L (steps A)
+unfolding freesSince Claim.freedSince steps
 since none x n L = refl
 since {P} (more {h} {h′} {s} {ss} y A) x n L = rw (frees-is x L (onPages P h) (s .event) (onPages P (s .heap))) (since A x _ (feed (s .event) L))
 

@@ -159,13 +159,13 @@ freesIn P x L h [] = 0
 freesIn P x L h (s ∷ ss) = frees x L (onPages P h) (s .event) (onPages P (s .heap)) + freesIn P x (feed (s .event) L) (s .heap) ss
 
 -- .. and how many have since the last accepted setup, where n had before them
-unfoldable pub freedSince : ℕ → ℕ → ℕ → Ledger → Heap → List Stage → ℕ
-freedSince P x n L h [] = n
-freedSince P x n L h (s ∷ ss) =
-    freedSince P x (cond (lasting (effect (s .event))) (n + frees x L (onPages P h) (s .event) (onPages P (s .heap))) 0) (feed (s .event) L) (s .heap) ss
+unfoldable pub freesSince : ℕ → ℕ → ℕ → Ledger → Heap → List Stage → ℕ
+freesSince P x n L h [] = n
+freesSince P x n L h (s ∷ ss) =
+    freesSince P x (cond (lasting (effect (s .event))) (n + frees x L (onPages P h) (s .event) (onPages P (s .heap))) 0) (feed (s .event) L) (s .heap) ss
 
 abbrev pub freed : ℕ → ℕ → Heap → List Stage → ℕ
-freed P x h ss = freedSince P x 0 empty h ss
+freed P x h ss = freesSince P x 0 empty h ss
 
 -- "A cycle runs from an accepted start to the next accepted sweep step that answers 0, 0, 0; a setup accepted before that breaks it off.": one that
 -- ends within the stages ss

@@ -12,7 +12,7 @@ use Rattle.marking.proofs.Graph.{setSlot, setField, emptyStack}
 use Rattle.marking.proofs.Colours.{Marked, shade, shadeAll, ungray, setGrayStack, shade-grows}
 use Rattle.marking.specs.Event.{Source}
 use Rattle.marking.proofs.Operations.{State, graphSource, idle, assign, store, resetStack, start, finish, endCycle, scanStack, scanGlobals, markStep, sweepStep, perform, markAt}
-use Rattle.marking.specs.WordHeap.{off, mark, sweep, marking, ColourBits, Elements, WordHeap, LegalColours, Alike, barrier, shadeBits, shadeAllBits, heapAssign, heapStore, heapStoreGlobal, heapPut, heapResetStack, heapStart, heapScanStack, heapScanGlobals, heapMarkStep, heapFinish, heapSweep, heapEndCycle, named}
+use Rattle.marking.specs.WordHeap.{off, mark, sweep, marking, ColourBits, Elements, WordHeap, LegalColours, Alike, barrierBits, shadeBits, shadeAllBits, heapAssign, heapStore, heapStoreGlobal, heapPut, heapResetStack, heapStart, heapScanStack, heapScanGlobals, heapMarkStep, heapFinish, heapSweep, heapEndCycle, named}
 use Rattle.marking.proofs.Safety.{Invariant}
 use Rattle.marking.proofs.Represents.{Layout, address, Live, SameColours, Represents, same-place, shade-colours, shadeAll-colours, assign-words, store-words, storeGlobal-words, put-words, emptyStack-words}
 
@@ -48,7 +48,7 @@ module _ {H : WordHeap} {Y : Layout} {numbers : ℕ → ℕ → ℕ} {S : State}
       e : H .unswept (Y .at x) ≡ false
       e = A .markSwept (rw (Z .phase) m) (Y .at x)
 
-  kept-barrier : (o a x : ℕ) → Live (S .allocated) x → S .kept x ≡ cond (H .unswept (Y .at x)) ((barrier H o a) .marked (Y .at x)) true
+  kept-barrier : (o a x : ℕ) → Live (S .allocated) x → S .kept x ≡ cond (H .unswept (Y .at x)) ((barrierBits H o a) .marked (Y .at x)) true
   kept-barrier o a x l = rw (Z .phase) (go (marking (S .phase)) refl)
     where
       go : (b : Bool) → marking (S .phase) ≡ b →

@@ -85,22 +85,22 @@ withGrayGlobals b B = record { marked = B .marked; gray = B .gray; grayGlobals =
 abbrev pub withGrayStack : (ℕ → Bool) → ColourBits → ColourBits
 withGrayStack s B = record { marked = B .marked; gray = B .gray; grayGlobals = B .grayGlobals; grayStack = s }
 
-abbrev pub withArena : (ℕ → ℕ) → WordHeap → WordHeap
-withArena a H = record { arena = a; allocated = H .allocated; elements = H .elements; unswept = H .unswept; bits = H .bits; slots = H .slots; globals = H .globals; opened = H .opened; phase = H .phase }
+abbrev pub heapWithArena : (ℕ → ℕ) → WordHeap → WordHeap
+heapWithArena a H = record { arena = a; allocated = H .allocated; elements = H .elements; unswept = H .unswept; bits = H .bits; slots = H .slots; globals = H .globals; opened = H .opened; phase = H .phase }
 
 -- the page table and the allocated bits: which words are allocated, the elements, which words are unswept
-abbrev pub withSpans : (ℕ → Bool) → Elements → (ℕ → Bool) → WordHeap → WordHeap
-withSpans a E u H = record { arena = H .arena; allocated = a; elements = E; unswept = u; bits = H .bits; slots = H .slots; globals = H .globals; opened = H .opened; phase = H .phase }
+abbrev pub heapWithSpans : (ℕ → Bool) → Elements → (ℕ → Bool) → WordHeap → WordHeap
+heapWithSpans a E u H = record { arena = H .arena; allocated = a; elements = E; unswept = u; bits = H .bits; slots = H .slots; globals = H .globals; opened = H .opened; phase = H .phase }
 
-abbrev pub withBits : ColourBits → WordHeap → WordHeap
-withBits B H = record { arena = H .arena; allocated = H .allocated; elements = H .elements; unswept = H .unswept; bits = B; slots = H .slots; globals = H .globals; opened = H .opened; phase = H .phase }
+abbrev pub heapWithBits : ColourBits → WordHeap → WordHeap
+heapWithBits B H = record { arena = H .arena; allocated = H .allocated; elements = H .elements; unswept = H .unswept; bits = B; slots = H .slots; globals = H .globals; opened = H .opened; phase = H .phase }
 
 -- slots, globals, which stacks are open
-abbrev pub withRoots : (ℕ → ℕ → ℕ) → (ℕ → ℕ) → (ℕ → Bool) → WordHeap → WordHeap
-withRoots s g o H = record { arena = H .arena; allocated = H .allocated; elements = H .elements; unswept = H .unswept; bits = H .bits; slots = s; globals = g; opened = o; phase = H .phase }
+abbrev pub heapWithRoots : (ℕ → ℕ → ℕ) → (ℕ → ℕ) → (ℕ → Bool) → WordHeap → WordHeap
+heapWithRoots s g o H = record { arena = H .arena; allocated = H .allocated; elements = H .elements; unswept = H .unswept; bits = H .bits; slots = s; globals = g; opened = o; phase = H .phase }
 
-abbrev pub withPhase : Phase → WordHeap → WordHeap
-withPhase p H = record { arena = H .arena; allocated = H .allocated; elements = H .elements; unswept = H .unswept; bits = H .bits; slots = H .slots; globals = H .globals; opened = H .opened; phase = p }
+abbrev pub heapWithPhase : Phase → WordHeap → WordHeap
+heapWithPhase p H = record { arena = H .arena; allocated = H .allocated; elements = H .elements; unswept = H .unswept; bits = H .bits; slots = H .slots; globals = H .globals; opened = H .opened; phase = p }
 
 -- THE CALLS: w is a word number, a an address
 -- the first word of the record in slot j of stack t
@@ -123,61 +123,61 @@ HasSource H t (Source.global g) = Unit {0}
 
 -- slot i of stack t becomes a
 unfoldable pub heapAssign : (t i a : ℕ) → WordHeap → WordHeap
-heapAssign t i a H = withRoots (update2 (H .slots) t i a) (H .globals) (H .opened) H
+heapAssign t i a H = heapWithRoots (update2 (H .slots) t i a) (H .globals) (H .opened) H
 
 -- "in the mark phase, a store to a record or a global first shades the old value, then the new"
-abbrev pub barrier : WordHeap → ℕ → ℕ → ColourBits
-barrier H o a = cond (marking (H .phase)) (shadeBits (H .elements .scan) (named (H .elements)) a (shadeBits (H .elements .scan) (named (H .elements)) o (H .bits))) (H .bits)
+abbrev pub barrierBits : WordHeap → ℕ → ℕ → ColourBits
+barrierBits H o a = cond (marking (H .phase)) (shadeBits (H .elements .scan) (named (H .elements)) a (shadeBits (H .elements .scan) (named (H .elements)) o (H .bits))) (H .bits)
 
 unfoldable pub heapStore : (w a : ℕ) → WordHeap → WordHeap
-heapStore w a H = withArena (update (H .arena) w a) (withBits (barrier H (H .arena w) a) H)
+heapStore w a H = heapWithArena (update (H .arena) w a) (heapWithBits (barrierBits H (H .arena w) a) H)
 
 unfoldable pub heapStoreGlobal : (g a : ℕ) → WordHeap → WordHeap
-heapStoreGlobal g a H = withRoots (H .slots) (update (H .globals) g a) (H .opened) (withBits (barrier H (H .globals g) a) H)
+heapStoreGlobal g a H = heapWithRoots (H .slots) (update (H .globals) g a) (H .opened) (heapWithBits (barrierBits H (H .globals g) a) H)
 
 -- word w becomes the number n
 unfoldable pub heapPut : (w n : ℕ) → WordHeap → WordHeap
-heapPut w n H = withArena (update (H .arena) w n) H
+heapPut w n H = heapWithArena (update (H .arena) w n) H
 
 abbrev pub stackScanned : ℕ → ColourBits → ColourBits
 stackScanned t B = withGrayStack (update (B .grayStack) t false) B
 
 -- stack t is opened (b true) or closed, with all slots nil
 unfoldable pub heapResetStack : (t : ℕ) (b : Bool) → WordHeap → WordHeap
-heapResetStack t b H = withRoots (update (H .slots) t (λ i. 0)) (H .globals) (update (H .opened) t b)
-    (withBits (stackScanned t (H .bits)) H)
+heapResetStack t b H = heapWithRoots (update (H .slots) t (λ i. 0)) (H .globals) (update (H .opened) t b)
+    (heapWithBits (stackScanned t (H .bits)) H)
 
 unfoldable pub heapStart : WordHeap → WordHeap
-heapStart H = withPhase mark (withBits (withGrayGlobals true (withGrayStack (H .opened) (H .bits))) H)
+heapStart H = heapWithPhase mark (heapWithBits (withGrayGlobals true (withGrayStack (H .opened) (H .bits))) H)
 
 unfoldable pub heapScanStack : ℕ → WordHeap → WordHeap
-heapScanStack t H = withBits (stackScanned t (shadeAllBits (H .elements .scan) (named (H .elements)) (H .slots t) slotCount (H .bits))) H
+heapScanStack t H = heapWithBits (stackScanned t (shadeAllBits (H .elements .scan) (named (H .elements)) (H .slots t) slotCount (H .bits))) H
 
 -- the first n globals
 unfoldable pub heapScanGlobals : ℕ → WordHeap → WordHeap
-heapScanGlobals n H = withBits (shadeAllBits (H .elements .scan) (named (H .elements)) (H .globals) n (withGrayGlobals false (H .bits))) H
+heapScanGlobals n H = heapWithBits (shadeAllBits (H .elements .scan) (named (H .elements)) (H .globals) n (withGrayGlobals false (H .bits))) H
 
 -- the record at word w, which has p pointer words
 unfoldable pub heapMarkStep : (w p : ℕ) → WordHeap → WordHeap
-heapMarkStep w p H = withBits
+heapMarkStep w p H = heapWithBits
     (shadeAllBits (H .elements .scan) (named (H .elements)) (λ f. H .arena (w + f)) p (withGray (update (H .bits .gray) w false) (H .bits))) H
 
 -- the words of `unswept` are then unswept
 unfoldable pub heapFinish : (unswept : ℕ → Bool) → WordHeap → WordHeap
-heapFinish unswept H = withPhase sweep (withSpans (H .allocated) (H .elements) unswept H)
+heapFinish unswept H = heapWithPhase sweep (heapWithSpans (H .allocated) (H .elements) unswept H)
 
 -- a span with the words q is swept; the elements are then E
 unfoldable pub heapSweep : (q : ℕ → Bool) (E : Elements) → WordHeap → WordHeap
 heapSweep q E H =
-    withSpans (λ w. cond (q w) (H .bits .marked w) (H .allocated w)) E (λ w. cond (q w) false (H .unswept w))
-    (withBits (withMarked (λ w. cond (q w) false (H .bits .marked w)) (H .bits)) H)
+    heapWithSpans (λ w. cond (q w) (H .bits .marked w) (H .allocated w)) E (λ w. cond (q w) false (H .unswept w))
+    (heapWithBits (withMarked (λ w. cond (q w) false (H .bits .marked w)) (H .bits)) H)
 
 unfoldable pub heapEndCycle : WordHeap → WordHeap
-heapEndCycle H = withPhase off H
+heapEndCycle H = heapWithPhase off H
 
 -- a record is born at word w, black in the mark phase, and slot i of stack t names it; arena, elements and unswept words are then as given
 unfoldable pub heapAllocate : (t i w : ℕ) (arena : ℕ → ℕ) (E : Elements) (unswept : ℕ → Bool) → WordHeap → WordHeap
 heapAllocate t i w arena E unswept H =
-    withArena arena (withSpans (update (H .allocated) w true) E unswept
-    (withBits (withMarked (cond (marking (H .phase)) (update (H .bits .marked) w true) (H .bits .marked)) (H .bits))
-    (withRoots (update2 (H .slots) t i (addressOf w)) (H .globals) (H .opened) H)))
+    heapWithArena arena (heapWithSpans (update (H .allocated) w true) E unswept
+    (heapWithBits (withMarked (cond (marking (H .phase)) (update (H .bits .marked) w true) (H .bits .marked)) (H .bits))
+    (heapWithRoots (update2 (H .slots) t i (addressOf w)) (H .globals) (H .opened) H)))

@@ -32,8 +32,8 @@ pub refused : (m : ℕ) (h : Heap) (x : Answer) (d : Heap) {n : ℕ} → n ≡ m
 refused m h x d {n} e f = rw (← e, ne-eqb n 0 f) (record { answer = refl; listed = refl; arena = refl; table = refl; bits = refl; roots = refl })
 
 -- what is not refused is done
-pub accepted : (m : ℕ) (h : Heap) (x : Answer) (d : Heap) → m ≡ 0 → Meets (outcome m h x d) x (d .arena) (d .table) (d .bits) (d .roots)
-accepted m h x d e = rw e (record { answer = refl; listed = refl; arena = refl; table = refl; bits = refl; roots = refl })
+pub not-refused : (m : ℕ) (h : Heap) (x : Answer) (d : Heap) → m ≡ 0 → Meets (outcome m h x d) x (d .arena) (d .table) (d .bits) (d .roots)
+not-refused m h x d e = rw e (record { answer = refl; listed = refl; arena = refl; table = refl; bits = refl; roots = refl })
 
 -- after an entry check that gives 0, what meets the audited call meets the public call
 pub entered : (h : Heap) {o : Outcome} {r : Answer} {a t b s : List ℕ} → entry h ≡ 0 → Meets o r a t b s → Meets (audited h o) r a t b s

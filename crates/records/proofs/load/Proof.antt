@@ -4,7 +4,7 @@ use mathlib.Core.Path.{sym, _∙_}
 use native.Mathlib.Omega.{arith}
 use Rattle.model.specs.Memory.{lent}
 use Rattle.model.specs.Records.{load}
-use Rattle.model.proofs.Outcomes.{refused, accepted}
+use Rattle.model.proofs.Outcomes.{refused, not-refused}
 use Rattle.fields.proofs.Fields.{rooted}
 use Rattle.records.proofs.Accesses.{Access, field, pointer-access}
 use borrow.Author.Needs.{needs}
@@ -48,7 +48,7 @@ same-length-2 c = search needs
 
 returns-2 : tie.Need-returns-2
 unfolding load
-returns-2 c = rw (c .before .slot-at .ensures, c .before .before .field-at .ensures 0 [] [] []) (accepted _ (lent (c .before .before .before .before .before .before .before .before .before .before .before .args .p) _ _ _ _) _ _ (sym (c .before .before .before .before .before .pointer-refusal .ensures (c .before .before .before .before .before .before .before .before .before .before .before .args .arena .now)) ∙ c .before .before .before .before .if1 .left))
+returns-2 c = rw (c .before .slot-at .ensures, c .before .before .field-at .ensures 0 [] [] []) (not-refused _ (lent (c .before .before .before .before .before .before .before .before .before .before .before .args .p) _ _ _ _) _ _ (sym (c .before .before .before .before .before .pointer-refusal .ensures (c .before .before .before .before .before .before .before .before .before .before .before .args .arena .now)) ∙ c .before .before .before .before .if1 .left))
 
 pub load-spec : {M : Type 1} → statement M
 load-spec =

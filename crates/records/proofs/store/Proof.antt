@@ -4,7 +4,7 @@ use mathlib.Core.Path.{sym, _∙_}
 use native.Mathlib.Omega.{arith}
 use Rattle.model.specs.Memory.{lent}
 use Rattle.model.specs.Records.{store}
-use Rattle.model.proofs.Outcomes.{refused, accepted}
+use Rattle.model.proofs.Outcomes.{refused, not-refused}
 use Rattle.fields.proofs.Fields.{rooted}
 use Rattle.records.proofs.Accesses.{Access, field, pointer-access, pointer-stored}
 use borrow.Author.Needs.{needs}
@@ -60,7 +60,7 @@ same-length-3 c = search needs
 
 returns-2 : tie.Need-returns-2
 unfolding store
-returns-2 c = rw (c .before .before .barrier .ensures (c .before .before .before .before .before .before .before .before .before .before .before .before .before .before .before .args .arena .now), c .before .before .before .before .before .before .before .field-at .ensures 0 [] [] [], c .before .before .before .before .before .before .slot-at .ensures) (accepted _ (lent (c .before .before .before .before .before .before .before .before .before .before .before .before .before .before .before .args .p) _ _ _ _) _ _ (sym (c .before .before .before .before .before .before .before .before .before .pointer-refusal .ensures (c .before .before .before .before .before .before .before .before .before .before .before .before .before .before .before .args .arena .now)) ∙ c .before .before .before .before .before .before .before .before .if1 .left))
+returns-2 c = rw (c .before .before .barrier .ensures (c .before .before .before .before .before .before .before .before .before .before .before .before .before .before .before .args .arena .now), c .before .before .before .before .before .before .before .field-at .ensures 0 [] [] [], c .before .before .before .before .before .before .slot-at .ensures) (not-refused _ (lent (c .before .before .before .before .before .before .before .before .before .before .before .before .before .before .before .args .p) _ _ _ _) _ _ (sym (c .before .before .before .before .before .before .before .before .before .pointer-refusal .ensures (c .before .before .before .before .before .before .before .before .before .before .before .before .before .before .before .args .arena .now)) ∙ c .before .before .before .before .before .before .before .before .if1 .left))
 
 pub store-spec : {M : Type 1} → statement M
 store-spec =

@@ -4,7 +4,7 @@ use mathlib.Core.Path.{sym, _∙_}
 use native.Mathlib.Omega.{arith}
 use Rattle.model.specs.Memory.{lent, stackCount, slotCount, globalCount}
 use Rattle.model.specs.Records.{storeGlobal}
-use Rattle.model.proofs.Outcomes.{refused, accepted}
+use Rattle.model.proofs.Outcomes.{refused, not-refused}
 use Rattle.root_checks.proofs.Passed.{global-bounds}
 use Rattle.records.proofs.Accesses.{roots-stored}
 use borrow.Author.Needs.{needs}
@@ -60,7 +60,7 @@ same-length-3 c = search needs
 
 returns-2 : tie.Need-returns-2
 unfolding storeGlobal
-returns-2 c = λ a. rw (c .before .before .barrier .ensures a, c .before .before .before .before .before .before .before .slot-at .ensures) (accepted _ (lent (c .before .before .before .before .before .before .before .before .before .before .before .before .before .before .args .p) a _ _ _) _ _ (sym (c .before .before .before .before .before .before .before .before .before .global-refusal .ensures (c .before .before .before .before .before .before .before .before .before .before .before .before .before .before .args .p) a (c .before .before .before .before .before .before .before .before .before .before .before .before .before .before .args .table .now) (c .before .before .before .before .before .before .before .before .before .before .before .before .before .before .args .bits .now)) ∙ c .before .before .before .before .before .before .before .before .if1 .left))
+returns-2 c = λ a. rw (c .before .before .barrier .ensures a, c .before .before .before .before .before .before .before .slot-at .ensures) (not-refused _ (lent (c .before .before .before .before .before .before .before .before .before .before .before .before .before .before .args .p) a _ _ _) _ _ (sym (c .before .before .before .before .before .before .before .before .before .global-refusal .ensures (c .before .before .before .before .before .before .before .before .before .before .before .before .before .before .args .p) a (c .before .before .before .before .before .before .before .before .before .before .before .before .before .before .args .table .now) (c .before .before .before .before .before .before .before .before .before .before .before .before .before .before .args .bits .now)) ∙ c .before .before .before .before .before .before .before .before .if1 .left))
 
 pub store-global-spec : {M : Type 1} → statement M
 store-global-spec =

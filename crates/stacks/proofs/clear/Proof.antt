@@ -2,7 +2,7 @@
 use mathlib.Core.Path.{sym, _∙_}
 use native.Mathlib.Omega.{arith}
 use Rattle.model.specs.Memory.{lent}
-use Rattle.model.proofs.Outcomes.{refused, accepted}
+use Rattle.model.proofs.Outcomes.{refused, not-refused}
 use Rattle.model.specs.Records.{clear}
 use Rattle.root_checks.proofs.Passed.{slot-bounds}
 use borrow.Author.Needs.{needs}
@@ -33,7 +33,7 @@ same-length-2 c = search needs
 
 returns-2 : tie.Need-returns-2
 unfolding clear
-returns-2 c = λ p a t b. rw (c .slot-at .ensures) (accepted _ (lent p a t b _) _ _ (sym (c .before .before .slot-refusal .ensures p a t b) ∙ c .before .if1 .left))
+returns-2 c = λ p a t b. rw (c .slot-at .ensures) (not-refused _ (lent p a t b _) _ _ (sym (c .before .before .slot-refusal .ensures p a t b) ∙ c .before .if1 .left))
 
 pub clear-spec : {M : Type 1} → statement M
 clear-spec =
