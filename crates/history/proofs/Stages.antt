@@ -147,13 +147,13 @@ parts {P} {h} {h′} {ss} A C =
           before = C .before;
           first = C .first;
           between = S .marking;
-          finish = S .finish;
+          last = S .finish;
           later = S .sweeping ++ (C .last ∷ C .later);
           list = C .list ∙ ap (λ (l : List Stage). C .before ++ (C .first ∷ l))
               (ap (λ (l : List Stage). l ++ (C .last ∷ C .later)) (S .list) ∙ append-more (S .marking) (S .finish) (S .sweeping) (C .last ∷ C .later));
           starts = C .starts;
           lasts = S .marks;
-          finishes = S .finishes;
+          ends = S .finishes;
         };
         sweeping = S .sweeping;
         last = C .last;

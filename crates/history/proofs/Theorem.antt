@@ -171,18 +171,18 @@ module _ (P : ℕ) (h : Heap) (F : Audited (onPages P h)) (Fr : Fresh (view (onP
     before : Along P h (M .before) (endOf h (M .before))
     start : StepOn P (endOf h (M .before)) Event.start (M .first .heap)
     between : Along P (M .first .heap) (M .between) (endOf (M .first .heap) (M .between))
-    finish : StepOn P (endOf (M .first .heap) (M .between)) Event.finish (M .finish .heap)
-    later : Along P (M .finish .heap) (M .later) h′
+    finish : StepOn P (endOf (M .first .heap) (M .between)) Event.finish (M .last .heap)
+    later : Along P (M .last .heap) (M .later) h′
 
   marks : {ss : List Stage} {h′ : Heap} → Along P h ss h′ → (M : Marking ss) → Marks M h′
   marks A M =
-      let s = at (M .before) (M .first) (M .between ++ (M .finish ∷ M .later)) (cut-as A (M .list)) in
-      let t = at (M .between) (M .finish) (M .later) (s .later) in
+      let s = at (M .before) (M .first) (M .between ++ (M .last ∷ M .later)) (cut-as A (M .list)) in
+      let t = at (M .between) (M .last) (M .later) (s .later) in
       record {
         before = s .before;
         start = step-as P (endOf h (M .before)) (M .first .heap) (M .starts) (s .here);
         between = t .before;
-        finish = step-as P (endOf (M .first .heap) (M .between)) (M .finish .heap) (M .finishes) (t .here);
+        finish = step-as P (endOf (M .first .heap) (M .between)) (M .last .heap) (M .ends) (t .here);
         later = t .later;
       }
 
@@ -205,13 +205,13 @@ module _ (P : ℕ) (h : Heap) (F : Audited (onPages P h)) (Fr : Fresh (view (onP
   marked-at A M x z k = let m = marks A M in unfold view in claims (m .before) .exact .marked (m .start) (steps (m .between)) (M .lasts) (m .finish) x z k
 
   exact-at : {ss : List Stage} {h′ : Heap} → Along P h ss h′ → (W : Whole ss) (x : ℕ) → let M = W .marking in let L = ledgerAtFinish M in
-      let saved = Saved (markingEvents M) (ledgerAtStart M) x in let times = freesIn P x L (M .finish .heap) (W .sweeping ++ (W .last ∷ [])) in
+      let saved = Saved (markingEvents M) (ledgerAtStart M) x in let times = freesIn P x L (M .last .heap) (W .sweeping ++ (W .last ∷ [])) in
       0 < x → x ≤ L .count → T (isAllocated L (heapAtFinish P M) x) → (¬ saved → times ≡ 1) × (saved → times ≡ 0)
   exact-at {ss} {h′} A W x z k a =
       let M = W .marking in
       let m = marks A M in
-      let t = at (W .sweeping) (W .last) (W .rest) (subst (λ (l : List Stage). Along P (W .marking .finish .heap) l h′) (W .later) (m .later)) in
-      let e = step-as P (endOf (W .marking .finish .heap) (W .sweeping)) (W .last .heap) (W .ends) (t .here) in
+      let t = at (W .sweeping) (W .last) (W .rest) (subst (λ (l : List Stage). Along P (W .marking .last .heap) l h′) (W .later) (m .later)) in
+      let e = step-as P (endOf (W .marking .last .heap) (W .sweeping)) (W .last .heap) (W .ends) (t .here) in
       let r = claims (m .before) .exact .freed (m .start) (steps (m .between)) (M .lasts) (m .finish) (steps (t .before)) (W .sweeps) e x z k
       (seen-allocated (ledgerAtFinish (W .marking)) (heapAtFinish P (W .marking)) x a) in
       let q = to-end (t .before) x (ledgerAtFinish (W .marking)) (W .last) (W .ends) in

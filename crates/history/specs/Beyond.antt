@@ -19,19 +19,11 @@ use Rattle.model.specs.Bitmaps.{is, allocated, marked}
 use Rattle.model.specs.Calls.{Start, ScanGlobals, MarkStep, Finish, SweepStep, ScanStack, Request, step, after}
 use Rattle.model.specs.Answers.{refusal, accepted, damaged}
 use Rattle.history.specs.Ledger.{onPages}
-use Rattle.history.specs.Demand.{setupOf, Stage, stages, eventsOf, endOf, fed, eventOn, Place, answerAt, freesIn, Cycle, Demand}
+use Rattle.history.specs.Demand.{setupOf, Stage, stages, eventsOf, endOf, fed, eventOn, Place, answerAt, freesIn, Interval, Cycle, Demand}
 
--- the mark phase of a cycle within the stages ss, from its start to its finish
-pub record Marking (ss : List Stage) : Type 0 where
-  pub before : List Stage
-  pub first : Stage
-  pub between : List Stage
-  pub finish : Stage
-  pub later : List Stage
-  pub list : ss ≡ before ++ (first ∷ (between ++ (finish ∷ later)))
-  pub starts : first .event ≡ Event.start
-  pub lasts : Each inMarking (eventsOf between)
-  pub finishes : finish .event ≡ Event.finish
+-- the mark phase of a cycle, from its start to its finish
+abbrev pub Marking : List Stage → Type 0
+Marking = Interval Event.start inMarking Event.finish
 
 -- a whole cycle: its mark phase, and after the finish its sweep phase with the sweep step that ends it
 pub record Whole (ss : List Stage) : Type 0 where
@@ -48,7 +40,7 @@ pub record Parts {ss : List Stage} (C : Cycle ss) : Type 0 where
   pub whole : Whole ss
   pub before : whole .marking .before ≡ C .before
   pub first : whole .marking .first ≡ C .first
-  pub between : C .between ≡ whole .marking .between ++ (whole .marking .finish ∷ whole .sweeping)
+  pub between : C .between ≡ whole .marking .between ++ (whole .marking .last ∷ whole .sweeping)
   pub last : whole .last ≡ C .last
 
 -- a mark phase: the events from its start to its finish, the ledger at its start and at its finish, and the heap of P pages that the finish finds
@@ -106,7 +98,7 @@ pub record Beyond (P : ℕ) (h : Heap) (rs : List Request) : Type 0 where
   pub marked : (M : Marking (stages h rs)) (x : ℕ) → let L = ledgerAtFinish M in let saved = Saved (markingEvents M) (ledgerAtStart M) x in
       0 < x → x ≤ L .count → (T (isMarked L (heapAtFinish P M) x) → saved) × (saved → T (isMarked L (heapAtFinish P M) x))
   pub exact : (W : Whole (stages h rs)) (x : ℕ) → let M = W .marking in let L = ledgerAtFinish M in let saved = Saved (markingEvents M) (ledgerAtStart M) x in
-      let times = freesIn P x L (M .finish .heap) (W .sweeping ++ (W .last ∷ [])) in
+      let times = freesIn P x L (M .last .heap) (W .sweeping ++ (W .last ∷ [])) in
       0 < x → x ≤ L .count → T (isAllocated L (heapAtFinish P M) x) → (¬ saved → times ≡ 1) × (saved → times ≡ 0)
   -- Every cycle can be brought to its end. After the list a start is accepted, or some scans and mark steps, in all at most as many as there are
   -- stacks, one for the globals, and the allocated records, make finish accepted, or some sweep steps, no more than there are pages, leave nothing to

@@ -9,13 +9,13 @@
 --
 -- To be read before it: Calls of the model, Effect, Event and Ledger of the crate marking, and Ledger here.
 use Prim.Native.Nat.{ℕ, _+_, _≤_, _<_}
-use mathlib.Core.Bool.{not, cond}
+use mathlib.Core.Bool.{Bool, not, cond}
 use mathlib.Core.List.{List, [], _∷_, _++_, map}
 use mathlib.Core.Logic.{_≢_}
 use mathlib.Core.Path.{_≡_}
 use lib.ListN.{length}
 use lib.Dec.{T, eqb}
-use Rattle.marking.specs.Effect.{lasting, inCycle, turnedOff}
+use Rattle.marking.specs.Effect.{Effect, lasting, inCycle, turnedOff}
 use Rattle.marking.specs.Event.{Write}
 use Rattle.marking.specs.Event
 use Rattle.marking.specs.Ledger.{Ledger, Event, effect, Each, empty, feed, feedAll, value, ledgerWord, Reachable, lastBorn}
@@ -167,18 +167,22 @@ freesSince P x n L h (s ∷ ss) =
 abbrev pub freed : ℕ → ℕ → Heap → List Stage → ℕ
 freed P x h ss = freesSince P x 0 empty h ss
 
--- "A cycle runs from an accepted start to the next accepted sweep step that answers 0, 0, 0; a setup accepted before that breaks it off.": one that
--- ends within the stages ss
-pub record Cycle (ss : List Stage) : Type 0 where
+-- a part of the stages ss: it runs from one event to another, and what lies between passes a test
+pub record Interval (from : Event) (test : Effect → Bool) (to : Event) (ss : List Stage) : Type 0 where
   pub before : List Stage
   pub first : Stage
   pub between : List Stage
   pub last : Stage
   pub later : List Stage
   pub list : ss ≡ before ++ (first ∷ (between ++ (last ∷ later)))
-  pub starts : first .event ≡ Event.start
-  pub lasts : Each inCycle (eventsOf between)
-  pub ends : last .event ≡ Event.endCycle
+  pub starts : first .event ≡ from
+  pub lasts : Each test (eventsOf between)
+  pub ends : last .event ≡ to
+
+-- "A cycle runs from an accepted start to the next accepted sweep step that answers 0, 0, 0; a setup accepted before that breaks it off.": one that
+-- ends within the stages
+abbrev pub Cycle : List Stage → Type 0
+Cycle = Interval Event.start inCycle Event.endCycle
 
 -- THE CLAIM about the list rs, made on buffers of P pages that an accepted setup left as h
 pub record Demand (P : ℕ) (h : Heap) (rs : List Request) : Type 0 where
