@@ -1,5 +1,5 @@
 -- Finish: its view, and the references of what it leaves, which the theory's invariant gives (`agreed-references`); the audit before it does not.
-use Prim.Native.Nat.{ℕ, _+_, _-_, _*_, _/_, _%_, _<_, _≤_}
+use Prim.Native.Nat.{ℕ, _+_, _-_, _*_, _/_, _%_, _<_}
 use mathlib.Core.List.{List}
 use mathlib.Core.Bool.{Bool, true, false, not, cond, true≢false}
 use mathlib.Core.Logic.{_⊎_, inl, inr, _≢_}
@@ -26,7 +26,7 @@ use Rattle.model.proofs.Named.{address-refers}
 use Rattle.keeps.proofs.Roots.{root-at, root-other}
 use Rattle.keeps.proofs.Tables.{like-scan, like-words}
 use Rattle.keeps.proofs.Finished.{unsweptTable, finished, finish-at, finish-like, finish-unswept}
-use Rattle.history.proofs.View.{view, phaseOf, lateAt, scansAt, wordsAt, runFrom, states, colours-eq, heap-eq, slots-same, globals-same, states-same}
+use Rattle.history.proofs.View.{view, phaseOf, lateAt, scansAt, wordsAt, runFrom, colours-eq, heap-eq, slots-same, globals-same, states-same}
 
 module _ {h : Heap} (F : Audited h) where
   abbrev t : List ℕ

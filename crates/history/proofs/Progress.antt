@@ -1,18 +1,17 @@
 -- Every cycle can be brought to its end: in the mark phase some scan or mark step lowers what is left to mark until finish is accepted; in the sweep
 -- phase each sweep step leaves one unswept span less.
-use Prim.Native.Nat.{ℕ, zero, suc, _+_, _-_, _*_, _≤_, _<_}
+use Prim.Native.Nat.{ℕ, zero, suc, _+_, _-_, _≤_, _<_}
 use mathlib.Core.Bool.{Bool, true, false, not, cond, _&&_, _||_}
 use mathlib.Core.List.{List, [], _∷_}
 use mathlib.Core.Logic.{_⊎_, inl, inr, _≢_}
-use mathlib.Core.Path.{_≡_, refl, _∙_, subst}
+use mathlib.Core.Path.{_≡_, refl, _∙_}
 use native.Mathlib.Omega.{arith}
 use lib.ListN.{length, replicate}
 use lib.Dec.{T, eqb, ltb}
 use borrow.Author.Tests.{ltb-true, ltb-false, lt-ltb, le-ltb, eq-eqb, ne-eqb, eqb-true, eqb-false}
-use Rattle.marking.specs.WordHeap.{WordHeap, Phase}
+use Rattle.marking.specs.WordHeap.{Phase}
 use Rattle.marking.specs.Event
 use Rattle.marking.specs.Ledger.{Ledger, Event, feed}
-use Rattle.marking.specs.Trace.{Step}
 use Rattle.marking.specs.Advance.{toMark, Advances}
 use Rattle.marking.proofs.Advance.{advancing}
 use Rattle.marking.specs.Advance

@@ -1,12 +1,10 @@
 -- The calls on records, stacks and globals, accepted or refused, on a heap that passes the audit.
-use Prim.Native.Nat.{ℕ, zero, _+_, _-_, _*_, _<_}
+use Prim.Native.Nat.{ℕ, _+_, _-_, _*_, _<_}
 use mathlib.Core.List.{List}
 use mathlib.Core.Bool.{true, false}
-use mathlib.Core.Logic.{inl, _≢_}
 use mathlib.Core.Path.{_≡_, refl, ap, sym, _∙_}
 use native.Mathlib.Omega.{arith}
 use lib.ListN.{set}
-use lib.Dec.{T}
 use borrow.Author.Tests.{lt-ltb, eq-eqb}
 use Rattle.marking.specs.WordHeap.{recordIn}
 use Rattle.marking.specs.Event.{Source}

@@ -13,7 +13,7 @@ use Rattle.marking.proofs.Represents.{Layout}
 use Rattle.marking.specs.Ledger.{Ledger}
 use Rattle.marking.specs.Trace
 use Rattle.marking.proofs.Agreement.{Agrees}
-use Rattle.model.specs.Memory.{Heap, lent, goodBuffers}
+use Rattle.model.specs.Memory.{Heap, goodBuffers}
 use Rattle.model.specs.Answers.{Outcome, outcome, refusal, _given_, _orElse_, badBuffers, damaged}
 use Rattle.model.specs.Checks.{buffersRefusal}
 use Rattle.model.specs.Records.{setup, fresh}

@@ -1,7 +1,7 @@
 -- Stages as steps of the theory: a list of stages can be cut at each of them, what the buffers show of freeing from stage to stage is what the theory
 -- counts, and every cycle has a finish.
 use Prim.Native.Nat.{ℕ, _+_}
-use mathlib.Core.List.{List, [], _∷_, _++_, map}
+use mathlib.Core.List.{List, [], _∷_, _++_}
 use mathlib.Core.Logic.{_⊎_, inl, inr}
 use mathlib.Core.Path.{_≡_, refl, subst, ap, _∙_}
 use native.Mathlib.Omega.{arith}
@@ -17,7 +17,7 @@ use Rattle.marking.proofs.Phases.{start-marks, end-swept, marking-goes}
 use Rattle.model.specs.Memory.{Heap}
 use Rattle.history.specs.Ledger.{onPages}
 use Rattle.history.specs.Demand.{Stage, eventsOf, endOf, frees, freesIn, freesSince, Cycle}
-use Rattle.history.specs.Beyond.{Marking, Whole, Parts}
+use Rattle.history.specs.Beyond.{Parts}
 use Rattle.history.proofs.View.{view}
 
 -- the theory's step from one heap of P pages to another

@@ -1,6 +1,6 @@
 -- DEMAND 3, proved: the claim of specs/Demand.antt, of every list of requests after an accepted setup.
 use Prim.Native.Nat.{ℕ, zero, suc, _+_, _-_, _≤_, _<_}
-use mathlib.Core.Bool.{Bool, true, false, not, cond, _&&_}
+use mathlib.Core.Bool.{Bool, true, false, not, _&&_}
 use mathlib.Core.List.{List, [], _∷_, _++_, map, append-assoc}
 use mathlib.Core.Logic.{_≢_}
 use mathlib.Core.Path.{_≡_, refl, ap, sym, _∙_, subst}
@@ -10,7 +10,7 @@ use borrow.Author.Tests.{lt-ltb}
 use Rattle.marking.specs.Count
 use Rattle.marking.specs.Event.{Write}
 use Rattle.marking.specs.Event
-use Rattle.marking.specs.Ledger.{Ledger, Event, empty, feed, feedAll, Reachable, lastBorn}
+use Rattle.marking.specs.Ledger.{Ledger, Event, empty, feed, Reachable, lastBorn}
 use Rattle.marking.specs.Trace.{Fresh}
 use Rattle.marking.specs.Trace
 use Rattle.marking.specs.Claim
@@ -36,7 +36,7 @@ use Rattle.model.proofs.Spans.{whole}
 use Rattle.model.proofs.Audit.{sized}
 use Rattle.keeps.proofs.Fresh.{fresh-kept}
 use Rattle.history.specs.Ledger.{onPages}
-use Rattle.history.specs.Demand.{setupOf, eventOn, Stage, sweepStage, stages, eventsOf, endOf, fed, ledger, Matches, FreePage, Pages, Subject, subject, Answered, freesIn, freed, Cycle, Demand}
+use Rattle.history.specs.Demand.{setupOf, eventOn, Stage, sweepStage, stages, eventsOf, endOf, fed, ledger, Matches, FreePage, Pages, subject, Answered, freesIn, freed, Cycle, Demand}
 use Rattle.history.specs.Beyond.{Marking, Whole, markingEvents, ledgerAtStart, ledgerAtFinish, heapAtFinish, isAllocated, isMarked, allocatedIn, Beyond, AfterSetup}
 use Rattle.history.proofs.Fresh.{fresh-view}
 use Rattle.history.proofs.View.{view, wordsAt}

@@ -10,11 +10,11 @@ use native.Mathlib.Omega.{arith}
 use lib.ListN.{set}
 use lib.Dec.{T, eqb, ltb}
 use borrow.Author.Tests.{eqb-true, ltb-true, ltb-false, eq-eqb, leb-false}
-use Rattle.model.specs.Memory.{Heap, goodBuffers, lent, choose, withArena, withBits, withRoots, withTable, setRoot, slot, global, state, globalsState, phase, word, words, slotAt, globalAt, stateAt, addressOf, nil, stackCount, slotCount, globalCount, firstGlobal, globalsStateAt, phaseAt, pageWords, unsweptFlag, openState, grayState, closed, off, mark, sweep}
+use Rattle.model.specs.Memory.{Heap, goodBuffers, choose, withArena, withBits, withRoots, withTable, setRoot, slot, global, state, globalsState, phase, word, words, slotAt, globalAt, stateAt, addressOf, nil, stackCount, slotCount, globalCount, globalsStateAt, phaseAt, pageWords, unsweptFlag, openState, grayState, closed, off, mark, sweep}
 use Rattle.model.specs.Bitmaps.{is, allocated, gray, pointer}
 use Rattle.model.specs.Answers.{Outcome, outcome, refusal, damaged, _given_, _orElse_}
 use Rattle.model.specs.Classes.{classOf, kindOf, pagesFor, elementWordsOf}
-use Rattle.model.specs.Spans.{owner, pageCount, kindEntry, startsSpan, isUnswept, spanOf, kept}
+use Rattle.model.specs.Spans.{owner, pageCount, kindEntry, startsSpan, isUnswept, kept}
 use Rattle.model.specs.Checks.{buffersRefusal, phaseRefusal, openRefusal, closedRefusal, slotRefusal, slotsRefusal, globalRefusal, pointerRefusal, numberRefusal, recordAt}
 use Rattle.model.specs.Shading.{barrier, shadeCount}
 use Rattle.model.specs.Allocate.{allocate, newBits, newTable, newWord, allocateRefusal}

@@ -9,7 +9,7 @@ use native.Mathlib.Omega.{arith}
 use lib.ListN.{getD, set, length-set, List·getD-eq-default}
 use lib.Dec.{eqb}
 use borrow.Author.Tests.{le-leb, eq-eqb, ne-eqb}
-use Rattle.model.specs.Memory.{Heap, withTable, setRoot, phase, pageWords, unsweptFlag, slotCount, firstState, globalsStateAt, phaseAt, mark, sweep}
+use Rattle.model.specs.Memory.{Heap, withTable, setRoot, phase, pageWords, unsweptFlag, slotCount, firstState, globalsStateAt, phaseAt, mark}
 use Rattle.model.specs.Spans.{owner, pageCount, kindEntry, spanOf, putPages}
 use Rattle.model.specs.Cycle.{unsweptPage}
 use Rattle.model.specs.Facts.{Spans, GoodEntry, Audited, Bits, References, unsweptAt}

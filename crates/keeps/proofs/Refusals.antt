@@ -7,7 +7,7 @@ use lib.Dec.{eqb}
 use Rattle.model.specs.Memory.{Heap, phase, mark, sweep}
 use Rattle.model.specs.Answers.{_given_, _orElse_, damaged, wrongPhase, badStack, badSlot, badSize, nilSlot, badField, sweepFirst, noRoom, unfinished}
 use Rattle.model.specs.Classes.{kindOf, pagesFor}
-use Rattle.model.specs.Checks.{phaseRefusal, openRefusal, closedRefusal, slotNumberRefusal, globalNumberRefusal, sizeRefusal, nilRefusal, pointerFieldRefusal, numberFieldRefusal, recordAt, slotRefusal, slotsRefusal, globalRefusal, pointerRefusal, numberRefusal}
+use Rattle.model.specs.Checks.{phaseRefusal, openRefusal, closedRefusal, slotNumberRefusal, nilRefusal, slotRefusal, slotsRefusal, globalRefusal, pointerRefusal, numberRefusal}
 use Rattle.model.specs.Allocate.{roomFor, roomRefusal, allocateRefusal, someUnswept}
 use Rattle.model.specs.Cycle.{finishRefusal}
 

@@ -14,7 +14,8 @@ use Rattle.model.specs.Classes.{elementWordsOf}
 use Rattle.model.specs.Spans.{owner, pageCount, kindEntry, isScan, elementWords, elements, elementStart, elementNumber, spanOf, elementOf, putPages, spanPage}
 use Rattle.model.proofs.Tests.{is-true}
 use Rattle.model.proofs.Bounded.{within, within-yes, within-true}
-use Rattle.model.proofs.Table.{Tabled, pages-owner, pages-count, pages-kind}
+use Rattle.model.proofs.Table.{pages-owner, pages-count, pages-kind}
+use Rattle.model.specs.Lent.{PageTable}
 use Rattle.model.specs.Facts.{Spans, IsSpan, GoodEntry, InElement, Element, Bits, bit, scanAt, unsweptAt}
 use Rattle.model.proofs.Spans.{span-of, entry-fits}
 
@@ -85,7 +86,7 @@ pub record Vacant (P : ℕ) (t : List ℕ) (s n kind : ℕ) : Type 0 where
   pub swept : kind < unsweptFlag
   pub entry : GoodEntry kind n
 
-module _ {P : ℕ} {t : List ℕ} (k : Tabled P t) (F : Spans P t) {s n kind : ℕ} (Q : Vacant P t s n kind) where
+module _ {P : ℕ} {t : List ℕ} (k : PageTable P t) (F : Spans P t) {s n kind : ℕ} (Q : Vacant P t s n kind) where
   abbrev u : List ℕ
   u = putPages s n (spanPage s n kind) t
 

@@ -1,6 +1,6 @@
 -- THE THEOREM: the three claims hold after every list of calls that follows a setup.
 use Rattle.marking.specs.Trace.{setup}
-use Rattle.marking.specs.EveryList.{Claims, EveryList}
+use Rattle.marking.specs.EveryList.{EveryList}
 use Rattle.marking.proofs.Freed.{reached, fresh-reached}
 use Rattle.marking.proofs.Correct.{reached-correct}
 use Rattle.marking.proofs.Exact.{reached-exact}

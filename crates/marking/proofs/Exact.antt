@@ -1,6 +1,6 @@
 -- The exact freed set, proved: the marked records at a finish are the saved ones, and the cycle frees the others.
 use mathlib.Core.Path.{_≡_, refl, ap, sym, _∙_}
-use mathlib.Core.Bool.{Bool, true, false, not}
+use mathlib.Core.Bool.{Bool, false, not}
 use mathlib.Core.Logic.{_⊎_, inl, inr}
 use mathlib.Core.List.{List}
 use Prim.Native.Nat.{ℕ, suc, _≤_, _<_}
@@ -22,7 +22,7 @@ use Rattle.marking.proofs.Work.{darkens}
 use Rattle.marking.proofs.Represents.{Layout, Live}
 use Rattle.marking.specs.Event.{Source, Event, effect, Each}
 use Rattle.marking.specs.Event
-use Rattle.marking.specs.Ledger.{Ledger, feed, feedAll, empty}
+use Rattle.marking.specs.Ledger.{Ledger, feed, feedAll}
 use Rattle.marking.specs.Trace
 use Rattle.marking.specs.Trace.{Step, Steps, ready, more}
 use Rattle.marking.specs.Claim.{isAllocated, workIn, freedDuring, freedToEnd}
@@ -30,7 +30,7 @@ use Rattle.marking.proofs.Agreement.{Agrees}
 use Rattle.marking.proofs.Refinement
 use Rattle.marking.proofs.Refinement.{Becomes, agree, slot-record}
 use Rattle.marking.proofs.Matches.{at-is}
-use Rattle.marking.proofs.Freed.{isAllocated-is, Within, within, reached, fresh-reached, end-frees}
+use Rattle.marking.proofs.Freed.{isAllocated-is, Within, within, reached, end-frees}
 use Rattle.marking.proofs.Saving.{Saving, With, save-plain, save-shades, save-birth, save-store}
 use Rattle.marking.specs.Survivors.{From, itself, field, Saves, SavedBy, Saved, isMarked, Exact}
 

@@ -1,20 +1,20 @@
 -- What follows from the facts of the audit (specs/Facts.antt): which words are kept, named and pointers.
 use Prim.Native.Nat.{ℕ, zero, suc, _+_, _-_, _*_, _<_, _≤_}
-use mathlib.Core.Bool.{Bool, true, false, not, cond, true≢false}
+use mathlib.Core.Bool.{Bool, true, false, not, true≢false}
 use mathlib.Core.List.{List}
-use mathlib.Core.Logic.{_⊎_, inl, inr, _≢_}
+use mathlib.Core.Logic.{_≢_}
 use mathlib.Core.Path.{_≡_, refl, sym, _∙_}
 use native.Mathlib.Omega.{arith}
-use lib.ListN.{getD, length}
+use lib.ListN.{getD}
 use lib.Dec.{T, eqb, ltb, leb}
 use borrow.Author.Tests.{ltb-true, lt-leb}
-use Rattle.model.specs.Memory.{Heap, wordOf, addressOf, stackCount, slotCount, firstState, globalsStateAt, phaseAt, rootWords, pageWords, maxPages, entryNumbers, bitmapWords, unsweptFlag}
-use Rattle.model.specs.Bitmaps.{Part, allocated, marked, gray, pointer, bitIn, is}
-use Rattle.model.specs.Spans.{owner, kindEntry, isScan, isUnswept, spanOf, elementOf, elementWords, pointerCount, kept}
+use Rattle.model.specs.Memory.{Heap, pageWords, unsweptFlag}
+use Rattle.model.specs.Bitmaps.{allocated, pointer, is}
+use Rattle.model.specs.Spans.{owner, kindEntry, isUnswept, spanOf, elementWords, pointerCount, kept}
 use Rattle.model.proofs.Tests.{of-true, is-true}
 use Rattle.model.proofs.Bounded.{first-props}
-use Rattle.model.proofs.Bitmaps.{Four, bit-inside}
-use Rattle.model.specs.Facts.{Sized, IsSpan, Spans, InElement, Element, bit, unsweptAt, keptAt, Bits, Phases, Reference, Audited}
+use Rattle.model.proofs.Bitmaps.{Four}
+use Rattle.model.specs.Facts.{Sized, IsSpan, Spans, Element, bit, Bits, Phases, Reference, Audited}
 use Rattle.model.proofs.Spans.{own-word}
 
 pub four : (h : Heap) → Sized h → Four (pageWords * h .pages) (h .bits)

@@ -11,7 +11,6 @@ use lib.Arith.{digits-div}
 use lib.Dec.{eqb, ltb}
 use borrow.Author.Tests.{ltb-true, ltb-false, eqb-true, eqb-false}
 use Rattle.model.specs.Memory.{pageWords, unsweptFlag}
-use Rattle.model.specs.Classes.{classPages, kinds, fewestLarge, mostLarge}
 use Rattle.model.specs.Spans.{owner, pageCount, kindEntry, elementWords, elements, elementStart, elementNumber, spanOf, elementOf}
 use Rattle.model.specs.Facts.{IsSpan, GoodEntry, Spans, InElement, Element}
 use Rattle.model.proofs.Classes.{Fits, small-fits, large-fits}

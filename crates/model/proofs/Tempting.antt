@@ -26,7 +26,8 @@ use Rattle.model.proofs.Rules.{tests}
 use Rattle.model.proofs.Bounded.{within, within-yes}
 use Rattle.model.proofs.Words.{words-at}
 use Rattle.model.proofs.Bitmaps.{Four, samePart, part-at, part-run, part-length, run-length, bit-inside}
-use Rattle.model.proofs.Table.{Tabled, owner-put, pages-owner}
+use Rattle.model.proofs.Table.{owner-put, pages-owner}
+use Rattle.model.specs.Lent.{PageTable}
 use Rattle.model.proofs.Spans.{startIn}
 use Rattle.model.proofs.Facts.{four}
 use Rattle.model.proofs.Named.{There}
@@ -149,6 +150,6 @@ module _ (h : Heap) (Z : Sized h) where
         go (same-test (nothingLeft h s) false (λ y. rw (of-false (is marked h (elementStart (h .table) s k)) ((simp passes at y) k below)) at m) (λ z. absurd z))
         (omega (arith, bit-inside (pageWords * h .pages) marked (h .bits) (elementStart (h .table) s k) m)) (Z .table) (eqb x s) refl
       where
-        go : nothingLeft h s ≡ false → s < h .pages → Tabled (h .pages) (h .table) → (c : Bool) → eqb x s ≡ c → owner (sweptTable h s) x ≡ owner (h .table) x
+        go : nothingLeft h s ≡ false → s < h .pages → PageTable (h .pages) (h .table) → (c : Bool) → eqb x s ≡ c → owner (sweptTable h s) x ≡ owner (h .table) x
         go left low size true e = simp (left, entered, h .pages, eqb-true x s e, eq-eqb s s refl, i) refl
         go left low size false e = simp (left, entered, h .pages, e) refl
