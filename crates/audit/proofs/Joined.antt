@@ -14,7 +14,7 @@ use Rattle.model.specs.Facts.{Spans, Sized, Bits, Phases, States, Occupied, Aud
 use Rattle.model.specs.Lent.{RootReferences, AllSwept}
 use Rattle.model.proofs.Audit.{audit-facts, facts-audit}
 use Rattle.model.proofs.Lent.{sized-consistent}
-use Rattle.audit_pages.specs.Pages.{GoodPages}
+use Rattle.audit_pages.specs.Pass.{GoodPages}
 use Rattle.audit_words.specs.Contents.{Filled, Told, Contents}
 
 module _ (h : Heap) (Z : Sized h) where

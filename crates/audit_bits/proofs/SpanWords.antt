@@ -132,7 +132,7 @@ module _ {P : ℕ} {t : List ℕ} (F : Spans P t) (s : ℕ) (i : IsSpan t s) whe
           rw z at (owned r (o - 1) (omega arith) (before-mod o (elementWords t s) r (fits F s i .words) e) (x .1))
 
       pub span-words : (o : ℕ) → o < pageWords * pageCount t s → WordBits P phase t b (pageWords * s + o)
-      span-words o l = record { element = element; marks = marks; grays = grays; pointers = pointers; head = head; run = run }
+      span-words o l = record { element = element; marks = marks; grays = grays; pointers = pointers; head = head; unbroken = unbroken }
         where
           scan-at : T (isScan t s) → T (scanAt t (pageWords * s + o))
           scan-at x = rw (here o l .1) x
@@ -163,8 +163,8 @@ module _ {P : ℕ} {t : List ℕ} (F : Spans P t) (s : ℕ) (i : IsSpan t s) whe
           head : T (alloc o) → T (scanAt t (pageWords * s + o)) → T (point o)
           head a x = kept o l .head a (rw (here o l .1) at x)
 
-          run : T (point o) → elementOf t (pageWords * s + o) ≢ pageWords * s + o → T (bit P pointer b (pageWords * s + o - 1))
-          run q d =
+          unbroken : T (point o) → elementOf t (pageWords * s + o) ≢ pageWords * s + o → T (bit P pointer b (pageWords * s + o - 1))
+          unbroken q d =
               let x = follower o l (λ z. d (first-word o l z)) q in
               let e : pageWords * s + o - 1 ≡ pageWords * s + (o - 1) = omega (arith, x .0) in
               rw e (x .1)
@@ -205,7 +205,7 @@ module _ {P : ℕ} {t : List ℕ} (F : Spans P t) (s : ℕ) (i : IsSpan t s) whe
             rw (first-word o l z) at (W .pointers q .2)
 
         next : T (point o) → T (not (eqb (o % elementWords t s) 0 && ltb o (elements t s * elementWords t s))) → T (ltb 0 o && point (o - 1))
-        next q x = and-iff (ltb 0 o) (point (o - 1)) .1 (ltb-iff 0 o .1 some, rw e at (W .run q (λ z. inner (first-mod o l z))))
+        next q x = and-iff (ltb 0 o) (point (o - 1)) .1 (ltb-iff 0 o .1 some, rw e at (W .unbroken q (λ z. inner (first-mod o l z))))
           where
             inner : o % elementWords t s ≢ 0
             inner z = absurd (rw (borrow.Author.Tests.eq-eqb (o % elementWords t s) 0 z, of-true (ltb o (elements t s * elementWords t s)) (lies q .0)) at x)
@@ -240,7 +240,7 @@ module _ {P phase : ℕ} {t b : List ℕ} where
         grays = λ g. absurd (not-on (bit P gray b w) (y .0 .1) g);
         pointers = λ q. absurd (not-on (bit P pointer b w) (y .1) q);
         head = λ a. absurd (not-on (bit P allocated b w) (y .0 .0 .0) a);
-        run = λ q. absurd (not-on (bit P pointer b w) (y .1) q);
+        unbroken = λ q. absurd (not-on (bit P pointer b w) (y .1) q);
       }
 
   pub word-bare : (w : ℕ) → owner t (w / pageWords) ≡ 0 → WordBits P phase t b w → T (bare P b w)

@@ -129,7 +129,7 @@ module _ {P phase : ℕ} {t b : List ℕ} where
       grays = λ w x. let y = good w gray x .grays x in (y .0, y .1);
       pointers = λ w x. good w pointer x .pointers x;
       head = λ w x. good w allocated x .head x;
-      run = λ w x. good w pointer x .run x;
+      unbroken = λ w x. good w pointer x .unbroken x;
     },
     record {
       none = λ e w. off marked w (λ x. good w marked x .marks x .1 e);
@@ -156,7 +156,7 @@ module _ {P phase : ℕ} {t b : List ℕ} where
     grays = λ x. let y = B .grays w x in (y .0, y .1, lit x);
     pointers = B .pointers w;
     head = B .head w;
-    run = B .run w;
+    unbroken = B .unbroken w;
   }
     where
       lit : T (bit P gray b w) → phase ≡ mark

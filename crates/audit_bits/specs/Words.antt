@@ -16,7 +16,7 @@ pub record WordBits (P phase : ℕ) (t b : List ℕ) (w : ℕ) : Type 0 where
   pub grays : T (bit P gray b w) → T (bit P marked b w) × T (scanAt t w) × (phase ≡ mark)
   pub pointers : T (bit P pointer b w) → InElement t w × T (scanAt t w) × T (bit P allocated b (elementOf t w))
   pub head : T (bit P allocated b w) → T (scanAt t w) → T (bit P pointer b w)
-  pub run : T (bit P pointer b w) → elementOf t w ≢ w → T (bit P pointer b (w - 1))
+  pub unbroken : T (bit P pointer b w) → elementOf t w ≢ w → T (bit P pointer b (w - 1))
 
 -- the pages of the span at page g; a free page alone
 abbrev pub stretch : List ℕ → ℕ → ℕ

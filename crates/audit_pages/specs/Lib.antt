@@ -1,2 +1,2 @@
-pub mod Pages
+pub mod Pass
 pub mod Stacks

@@ -10,7 +10,7 @@ ghost use Rattle.model.specs.Spans.{pageCount};
 ghost use Rattle.model.specs.Facts.{GoodEntry, States};
 ghost use Rattle.model.specs.Lent.{Roots, PageTable, HasEntry};
 ghost use Rattle.audit_pages.specs.Stacks.{GoodPhase, EmptyStack, GoodStack};
-ghost use Rattle.audit_pages.specs.Pages.{GoodPages, Further, Body, GoodSpan, PassedPages};
+ghost use Rattle.audit_pages.specs.Pass.{GoodPages, Further, Body, GoodSpan, PassedPages};
 use units::CLOSED;
 use units::FIRST_STATE;
 use units::GLOBALS_STATE;

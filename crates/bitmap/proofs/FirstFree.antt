@@ -38,26 +38,26 @@ starts-from size m off j h s = go (leb off j) refl
             omega (arith, s, ap (λ x. x % size) e ∙ mul-add-mod-self-right ((m + j) / size) size (off - j) ∙ mod-eq-of-lt {n = off - j} {m = size} (omega arith))
 
 -- of the elements from bit `first` on one starts in word number `at`, at its bit `off`, and none below that
-pub record Reached (first size at off : ℕ) : Type 0 where
+pub record StartAt (first size at off : ℕ) : Type 0 where
   pub begun : first ≤ at * 64
   pub near : off < size
   pub within : off < 64
   pub start : (at * 64 - first + off) % size ≡ 0
 
-pub reached-first : (first size : ℕ) → first % 64 ≡ 0 → 0 < size → Reached first size (first / 64) 0
-reached-first first size a h =
+pub start-first : (first size : ℕ) → first % 64 ≡ 0 → 0 < size → StartAt first size (first / 64) 0
+start-first first size a h =
     let e : first / 64 * 64 - first + 0 ≡ 0 = omega arith in
     record { begun = omega arith; near = h; within = omega arith; start = rw e (zero-mod size) }
 
 -- the next word in which one starts, r bits after the word at hand
-module _ {first size at off : ℕ} (p : Reached first size at off) (r : ℕ) (l : r < size) (o : (r + 64) % size ≡ off) where
+module _ {first size at off : ℕ} (p : StartAt first size at off) (r : ℕ) (l : r < size) (o : (r + 64) % size ≡ off) where
   next-start : ((at + 1) * 64 - first + r) % size ≡ 0
   next-start =
       let e : (at + 1) * 64 - first + r ≡ (at * 64 - first) + (r + 64) = omega (arith, p .begun) in
       rw (e, ← add-mod-mod (at * 64 - first) (r + 64) size, o) (p .start)
 
-  pub reached-next : Reached first size (at + (1 + r / 64)) (r % 64)
-  reached-next =
+  pub start-next : StartAt first size (at + (1 + r / 64)) (r % 64)
+  start-next =
       let e : (at + (1 + r / 64)) * 64 - first + r % 64 ≡ (at + 1) * 64 - first + r = omega (arith, p .begun) in
       record { begun = omega (arith, p .begun); near = omega arith; within = omega arith; start = rw e next-start }
 
@@ -79,7 +79,7 @@ freeStart ws first size b = not (bitAt ws b) && starting first size b
 pub none-before : (ws : List ℕ) (first size : ℕ) → None (freeStart ws first size) (first / 64 * 64)
 none-before ws first size i l = rw (lt-leb first i (omega arith)) (and-false (not (bitAt ws i)))
 
-pub scan-free : (ws : List ℕ) {first size at off starts : ℕ} → Starts size starts → Reached first size at off → getD ws at 0 < 2 ^ 64 →
+pub scan-free : (ws : List ℕ) {first size at off starts : ℕ} → Starts size starts → StartAt first size at off → getD ws at 0 < 2 ^ 64 →
     None (freeStart ws first size) (at * 64) → Passed (freeStart ws first size) at (trailingZeros 64 (bitAnd ((2 ^ 64 - 1) - getD ws at 0) (starts * 2 ^ off % 2 ^ 64)))
 scan-free ws {first} {size} {at} {off} {starts} s p h n =
     scan-word (freeStart ws first size) at _ (word-and at (λ b. not (bitAt ws b)) (starting first size) _ _ (word-not at (bitAt ws) _ h (word-at ws at)) masked) n
@@ -94,7 +94,7 @@ scan-free ws {first} {size} {at} {off} {starts} s p h n =
         go true = s .bit (j - off) (omega arith)
         go false = refl
 
-pub none-next : (ws : List ℕ) {first size at off z : ℕ} (r : ℕ) → Reached first size at off → r < size → (r + 64) % size ≡ off →
+pub none-next : (ws : List ℕ) {first size at off z : ℕ} (r : ℕ) → StartAt first size at off → r < size → (r + 64) % size ≡ off →
     Passed (freeStart ws first size) at z → 64 ≤ z → None (freeStart ws first size) ((at + (1 + r / 64)) * 64)
 none-next ws {first} {size} {at} r p l o s w i b = go (ltb i ((at + 1) * 64)) refl
   where
@@ -132,7 +132,7 @@ module _ (ws : List ℕ) (first size count : ℕ) (h : 0 < size) where
           let e : first + q * size ≡ b = omega (arith, div-add-mod' (b - first) size) in
           rw (c, e) (t .0)
 
-  pub found-free : {at off z : ℕ} → Reached first size at off → Passed (freeStart ws first size) at z → z < 64 → min ((at * 64 + z - first) / size) count ≡ firstFree
+  pub found-free : {at off z : ℕ} → StartAt first size at off → Passed (freeStart ws first size) at z → z < 64 → min ((at * 64 + z - first) / size) count ≡ firstFree
   found-free {at} {off} {z} r p l = answer (at * 64 + z) (omega (arith, r .begun)) (p .none) (λ _. p .holds l)
 
   pub none-free : (b : ℕ) → None (freeStart ws first size) b → first + count * size ≤ b → count ≡ firstFree

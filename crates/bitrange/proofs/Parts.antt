@@ -9,7 +9,7 @@ use Rattle.model.specs.Bounded.{writeRun, countBelow}
 use Rattle.model.specs.Bitmaps.{bitAt, withBit, Part, allocated, marked, gray, pointer, place, bitIn, putBit, putBits}
 use Rattle.model.proofs.Bounded.{count-cong}
 use Rattle.model.proofs.Bitmaps.{Four, bit-in, part-run}
-use Rattle.bitrange.proofs.Runs.{run-cong, run-shift}
+use Rattle.bitrange.proofs.Runs.{writes-cong, run-shift}
 
 -- the words of a part follow each other
 pub place-from : (n : ℕ) (q : Part) (w : ℕ) → place n q w ≡ place n q 0 + w
@@ -34,7 +34,7 @@ pub part-from-part : (n : ℕ) (q r : Part) (w k : ℕ) (b c : List ℕ) → w +
     putBits n q w k (bitIn n r b) c ≡ writeRun withBit (place n q w) k (λ i. bitAt b (i - place n q w + place n r w)) c
 part-from-part n q r w k b c h =
     part-as-bits n q w k (bitIn n r b) c
-    ∙ run-cong withBit (place n q w) k _ _ c (λ i l m.
+    ∙ writes-cong withBit (place n q w) k _ _ c (λ i l m.
     let x = i - place n q 0 in
     let inside : x < n = omega (arith, place-from n q w) in
     bit-in n r b x inside ∙ ap (bitAt b) (omega (arith, place-from n q w, place-from n r w, place-from n r x)))
@@ -47,7 +47,7 @@ module _ (n : ℕ) (q r : Part) (w k : ℕ) (b c : List ℕ) (h : w + k ≤ n) (
       ≡ writeRun withBit (from * 64) (m * 64) (λ i. false) (writeRun withBit (to * 64) (m * 64) (λ i. bitAt c (i - to * 64 + from * 64)) c)
   part-moved to from m e f g =
       rw (← e, ← f, ← g) (part-constant n r w k false _
-      ∙ ap (writeRun withBit (place n r w) k (λ i. false)) (run-cong (putBit n q) w k (bitIn n r b) (bitIn n r c) c same ∙ part-from-part n q r w k c c h))
+      ∙ ap (writeRun withBit (place n r w) k (λ i. false)) (writes-cong (putBit n q) w k (bitIn n r b) (bitIn n r c) c same ∙ part-from-part n q r w k c c h))
 
 -- as the sweep says it: the pointer bits of the run change, then allocated becomes marked and marks go
 pub swept-parts : (n w k : ℕ) (g : ℕ → Bool) (b : List ℕ) → w + k ≤ n → Four n b → (to from m : ℕ) → w ≡ to * 64 → n + w ≡ from * 64 → k ≡ m * 64 →

@@ -16,7 +16,7 @@ use Rattle.model.specs.Memory.{putWords}
 use Rattle.model.specs.Bitmaps.{bitOf, withBitOf, bitAt, withBit}
 use Rattle.model.proofs.Bounded.{within}
 use Rattle.model.proofs.Bitmaps.{bit-below, bit-or, bit-and, bit-none, bit-not, bit-up, bit-all}
-use Rattle.bitrange.proofs.Runs.{run-append, run-cong}
+use Rattle.bitrange.proofs.Runs.{run-append, writes-cong}
 use Rattle.bitrange.proofs.Bits.{Fit, words-same, bit-high, word-run-fits, word-run-at, bits-length, bits-fit, run-in-word, words-as-bits}
 
 -- masks
@@ -84,7 +84,7 @@ pub fill-bits : (on : Bool) (a n : ℕ) (ws : List ℕ) → a + n ≤ length ws 
     putWords a n (λ i. cond on (2 ^ 64 - 1) 0) ws ≡ writeRun withBit (a * 64) (n * 64) (λ i. on) ws
 fill-bits on a n ws h f =
     words-as-bits a n (λ i. cond on (2 ^ 64 - 1) 0) ws h f (λ x l m. fits on)
-    ∙ run-cong withBit (a * 64) (n * 64) (λ i. eqb (bitOf (cond on (2 ^ 64 - 1) 0) (i % 64)) 1) (λ i. on) ws (λ i l m. bits on (i % 64) (omega arith))
+    ∙ writes-cong withBit (a * 64) (n * 64) (λ i. eqb (bitOf (cond on (2 ^ 64 - 1) 0) (i % 64)) 1) (λ i. on) ws (λ i l m. bits on (i % 64) (omega arith))
   where
     fits : (b : Bool) → cond b (2 ^ 64 - 1) 0 < 2 ^ 64
     fits true = omega arith
@@ -100,7 +100,7 @@ pub copy-bits : (to from n : ℕ) (ws : List ℕ) → to + n ≤ length ws → F
 unfolding bitAt
 copy-bits to from n ws h f =
     words-as-bits to n (λ i. getD ws (i - to + from) 0) ws h f (λ x l m. f (x - to + from))
-    ∙ run-cong withBit (to * 64) (n * 64) _ _ ws (λ i l m.
+    ∙ writes-cong withBit (to * 64) (n * 64) _ _ ws (λ i l m.
     let e : (i - to * 64 + from * 64) / 64 ≡ i / 64 - to + from = omega arith in
     let r : (i - to * 64 + from * 64) % 64 ≡ i % 64 = omega arith in
     rw (e, r))

@@ -14,11 +14,11 @@ run-append write b n zero g a = rw add-zero
 run-append write b n (suc m) g a = rw (add-suc, run-append write b n m g a, add-assoc b n m)
 
 -- runs whose values agree at the places
-pub run-cong : {A Y : Type 0} (write : ℕ → Y → A → A) (b n : ℕ) (g h : ℕ → Y) (a : A) → ((i : ℕ) → b ≤ i → i < b + n → g i ≡ h i) →
+pub writes-cong : {A Y : Type 0} (write : ℕ → Y → A → A) (b n : ℕ) (g h : ℕ → Y) (a : A) → ((i : ℕ) → b ≤ i → i < b + n → g i ≡ h i) →
     writeRun write b n g a ≡ writeRun write b n h a
 unfolding writeRun foldBelow
-run-cong write b zero g h a e = refl
-run-cong write b (suc n) g h a e = rw (run-cong write b n g h a (λ i l k. e i l (omega arith)), e (b + n) (omega arith) (omega arith))
+writes-cong write b zero g h a e = refl
+writes-cong write b (suc n) g h a e = rw (writes-cong write b n g h a (λ i l k. e i l (omega arith)), e (b + n) (omega arith) (omega arith))
 
 -- a run of writes each of which is another write, c places on
 pub run-shift : {A Y : Type 0} (put write : ℕ → Y → A → A) (c : ℕ) → ((i : ℕ) (y : Y) (a : A) → put i y a ≡ write (c + i) y a) →

@@ -19,7 +19,7 @@ use Rattle.model.proofs.Spans.{span-of, whole}
 use Rattle.model.specs.Facts.{Audited, Element, bit}
 use Rattle.model.specs.Lent.{Consistent}
 use Rattle.model.proofs.Facts.{no-pointer}
-use Rattle.model.proofs.Named.{named}
+use Rattle.model.proofs.Named.{kept-element}
 use Rattle.model.proofs.Lent.{audited-consistent}
 use Rattle.fields.specs.Needs.{Entries, Rooted}
 
@@ -93,7 +93,7 @@ module _ {p : ℕ} {t b : List ℕ} {w : ℕ} (R : Consistent p t b × Element t
 pub slot-record : {p : ℕ} {t b r : List ℕ} → Rooted p t b r → (i : ℕ) → i < firstState → getD r i 0 ≢ 0 → Consistent p t b × Element t (wordOf (getD r i 0))
 slot-record {p} {t} {b} {r} R i l d =
     let C = R .consistent in
-    (C, C .rules .element (wordOf (getD r i 0)) (named (C .rules) (getD r i 0) d (R .references i l) .0))
+    (C, C .rules .element (wordOf (getD r i 0)) (kept-element (C .rules) (getD r i 0) d (R .references i l) .0))
 
 pub rooted : {h : Heap} → Audited h → Rooted (h .pages) (h .table) (h .bits) (h .roots)
 rooted A = record { consistent = audited-consistent A; roots = A .sized .roots; references = A .references .root }

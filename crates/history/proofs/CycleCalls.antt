@@ -26,15 +26,15 @@ use Rattle.model.specs.Facts.{IsSpan, Audited, References}
 use Rattle.model.specs.declared.Answer.the-variants.{Done, Value, Swept}
 use Rattle.model.proofs.Named.{reference-there}
 use Rattle.model.proofs.Facts.{not-unswept, swept-all, pointer-word}
-use Rattle.model.proofs.Checks.{passes, orElse-iff, OpenStack, open-passed, Finishes, finish-passed}
+use Rattle.model.proofs.Checks.{passes, orElse-iff, OpenStack, open-passed, NothingGray, finish-passed}
 use Rattle.keeps.proofs.Roots.{started}
 use Rattle.keeps.proofs.SweptTable.{swept}
 use Rattle.keeps.proofs.Finished.{finished, unsweptTable, finish-spans, finish-bits}
-use Rattle.keeps.proofs.Calls.{first-gray, first-unswept, none-unswept, slot-refers, global-refers}
+use Rattle.keeps.proofs.Calls.{gray-found, unswept-found, none-unswept, slot-refers, global-refers}
 use Rattle.history.proofs.Finished.{finish-view, finish-late, agreed-references}
 use Rattle.history.proofs.View.{view, lateAt, end-view, start-view}
 use Rattle.history.proofs.ViewShaded.{scan-stack-view, scan-globals-view, mark-view}
-use Rattle.history.proofs.ViewTaken.{swept-step}
+use Rattle.history.proofs.ViewAllotted.{swept-step}
 use Rattle.history.proofs.Steps.{Happens, by-refusal, audit-view, see-phase}
 
 -- what the view says of gray
@@ -128,7 +128,7 @@ module _ {h : Heap} (F : Audited h) where
           Happens h MarkStep (Value (cond b (addressOf (firstGray h)) 0)) (choose b (withBits (scanRecord (firstGray h) h) h) h)
       go one true e =
           let w = firstGray h in
-          let g = first-gray h (ltb-true (firstGray h) (words h) e) in
+          let g = gray-found h (ltb-true (firstGray h) (words h) e) in
           let a = F .bits .marks w (F .bits .grays w g .0) in
           let kp : T (kept h w) = rw (not-unswept (F .spans) (F .phases) (λ q. absurd (omega arith)) (spanOf (h .table) w)) a in
           let z : eqb (addressOf w) 0 ≡ false = ne-eqb (addressOf w) 0 (omega arith) in
@@ -154,7 +154,7 @@ module _ {h : Heap} (F : Audited h) where
           Happens h SweepStep (cond b (Swept (s + 1) (freedCount h s) (cond (nothingLeft h s) (pageCount (h .table) s) 0)) (Swept 0 0 0))
           (choose b (swept s h) (setRoot phaseAt off h))
       go two true e =
-          let x = first-unswept (h .pages) (h .table) (ltb-true s (h .pages) e) in
+          let x = unswept-found (h .pages) (h .table) (ltb-true s (h .pages) e) in
           let z : eqb (s + 1) 0 ≡ false = ne-eqb (s + 1) 0 (omega arith) in
           record { step = rw z (swept-step F s (x .0) (x .1) (audit-view F) two); said = rw z tt }
       go two false e =
@@ -164,7 +164,7 @@ module _ {h : Heap} (F : Audited h) where
             said = tt;
           }
 
-  finish-step : Finishes h → Step (view h) Event.finish (view (finished h))
+  finish-step : NothingGray h → Step (view h) Event.finish (view (finished h))
   finish-step N = rw (finish-view F) (Trace.Step.finish (lateAt (unsweptTable h)) (audit-view F) (see-phase h (N .phase))
       (λ w. see-not-gray h w (N .records w)) (globals-not-gray h (ne-eqb (globalsState h) grayState (N .globals)))
       (λ s. stacks-not-gray h s (N .stacks s)) (λ w a. finish-late F w (see-used F w a)))

@@ -15,7 +15,7 @@ use Rattle.marking.proofs.Simulation.{nil-or-live}
 use Rattle.marking.specs.Ledger.{Ledger}
 use Rattle.marking.proofs.Agreement.{Agrees}
 use Rattle.model.specs.Bounded.{firstBelow}
-use Rattle.model.specs.Memory.{Heap, stackCount, slotCount, globalCount, firstGlobal, firstState, globalsStateAt, phaseAt, pageWords}
+use Rattle.model.specs.Memory.{Heap, stackCount, slotCount, globalCount, firstGlobal, firstState, globalsStateAt, phaseAt, pageWords, sweep, closed, grayState}
 use Rattle.model.specs.Bitmaps.{allocated, marked, pointer, is}
 use Rattle.model.specs.Spans.{owner, elementWords, spanOf, elementOf, kept}
 use Rattle.model.specs.Facts.{Spans, Element, Audited, Bits, References, Reference, unsweptAt}
@@ -43,17 +43,17 @@ module _ {h : Heap} (F : Audited h) where
   unfolding view heapFinish
   finish-view = heap-eq refl refl
       (λ i. record { scan = sc i; pointers = λ w. runFrom (is pointer h) w (el i w); words = el i }) refl
-      (colours-eq refl refl (rw (rest globalsStateAt (omega arith))) (states-same (λ x. eqb x 2) r (h .roots) (λ x b c. rest x (omega arith))))
+      (colours-eq refl refl (rw (rest globalsStateAt (omega arith))) (states-same (λ x. eqb x grayState) r (h .roots) (λ x b c. rest x (omega arith))))
       (slots-same r (h .roots) (λ x b. rest x (omega arith)))
       (globals-same r (h .roots) (λ x b c. rest x (omega arith)))
-      (states-same (λ x. not (eqb x 0)) r (h .roots) (λ x b c. rest x (omega arith)))
-      (ap phaseOf (root-at F phaseAt 2 (omega arith) phaseAt))
+      (states-same (λ x. not (eqb x closed)) r (h .roots) (λ x b c. rest x (omega arith)))
+      (ap phaseOf (root-at F phaseAt sweep (omega arith) phaseAt))
     where
       r : List ℕ
-      r = set (h .roots) phaseAt 2
+      r = set (h .roots) phaseAt sweep
 
       rest : (x : ℕ) → x ≢ phaseAt → getD r x 0 ≡ getD (h .roots) x 0
-      rest = root-other F phaseAt 2 (omega arith)
+      rest = root-other F phaseAt sweep (omega arith)
 
       sc : scansAt u ≡ scansAt t
       sc = unfold scansAt in fun-ext (λ w. like-scan (finish-like F w))

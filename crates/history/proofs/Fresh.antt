@@ -8,7 +8,7 @@ use lib.ListN.{getD, set}
 use lib.Dec.{eqb, ltb}
 use borrow.Author.Tests.{ltb-true}
 use Rattle.marking.specs.Trace.{Fresh}
-use Rattle.model.specs.Memory.{Heap, stackCount, slotCount, globalCount, firstGlobal, firstState, globalsStateAt, phaseAt, rootWords, pageWords, bitmapWords, openState}
+use Rattle.model.specs.Memory.{Heap, stackCount, slotCount, globalCount, firstGlobal, firstState, globalsStateAt, phaseAt, rootWords, pageWords, bitmapWords, openState, closed}
 use Rattle.model.specs.Bitmaps.{allocated}
 use Rattle.model.specs.Records.{fresh}
 use Rattle.keeps.proofs.Fresh.{zeros, no-bit, fresh-root, fresh-nil}
@@ -36,6 +36,6 @@ fresh-view h = record {
     globals g true e = fresh-nil (firstGlobal + g) (omega (arith, ltb-true g globalCount e))
     globals g false e = refl
 
-    opened : (t : ℕ) (a : Bool) → ltb t stackCount ≡ a → (a && not (eqb (getD r (firstState + t) 0) 0)) ≡ false
+    opened : (t : ℕ) (a : Bool) → ltb t stackCount ≡ a → (a && not (eqb (getD r (firstState + t) 0) closed)) ≡ false
     opened t true e = rw (fresh-nil (firstState + t) (omega (arith, ltb-true t stackCount e)))
     opened t false e = refl

@@ -1,6 +1,6 @@
 -- How demand 3 is proved of the definitions. A reader of the claim needs specs/ alone.
 --
--- The view of the four buffers as the theory's heap of functions, and each call seen as the theory's: View, ViewShaded, ViewTaken, Finished, Fresh.
+-- The view of the four buffers as the theory's heap of functions, and each call seen as the theory's: View, ViewShaded, ViewAllotted, Finished, Fresh.
 --
 -- A call comes to a step of the theory (Steps, RecordCalls, CycleCalls) and keeps the audit (crate keeps). Stages: the sweeps inside a call, and the
 -- call, as steps; where a list of stages is cut; every cycle has a finish. Runs: a request with a P of its own. Lists, Progress (a cycle can be brought
@@ -12,7 +12,7 @@ pub mod View
 pub mod ViewShaded
 pub mod Finished
 pub mod Fresh
-pub mod ViewTaken
+pub mod ViewAllotted
 pub mod Steps
 pub mod RecordCalls
 pub mod CycleCalls

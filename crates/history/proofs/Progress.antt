@@ -17,7 +17,7 @@ use Rattle.marking.proofs.Advance.{advancing}
 use Rattle.marking.specs.Advance
 use Rattle.marking.proofs.Freed.{Reached, reached-step}
 use Rattle.model.specs.Bounded.{countBelow, someBelow}
-use Rattle.model.specs.Memory.{Heap, phase, state, globalsState, words, stackCount, firstState, globalsStateAt, phaseAt, addressOf, unsweptFlag, grayState, mark, off, sweep}
+use Rattle.model.specs.Memory.{Heap, phase, state, globalsState, words, stackCount, firstState, globalsStateAt, phaseAt, addressOf, unsweptFlag, grayState, mark, off, sweep, openState}
 use Rattle.model.specs.Answers.{_given_, _orElse_, unfinished}
 use Rattle.model.specs.Spans.{kindEntry, startsSpan, isUnswept}
 use Rattle.model.specs.Checks.{phaseRefusal, openRefusal}
@@ -34,7 +34,7 @@ use Rattle.history.specs.Beyond.{Collects, startOf, finishOf, sweepOf}
 use Rattle.keeps.proofs.Roots.{root-other}
 use Rattle.keeps.proofs.SweptTable.{unswept-less}
 use Rattle.history.proofs.View.{view}
-use Rattle.keeps.proofs.Calls.{first-unswept}
+use Rattle.keeps.proofs.Calls.{unswept-found}
 use Rattle.history.proofs.Stages.{StepOn, step-as}
 use Rattle.history.proofs.Runs.{made, at-once}
 
@@ -51,7 +51,7 @@ done {h} F e = rw (entry-passes h F, e)
 scan-event : {h : Heap} → Audited h → phase h ≡ mark → (s : ℕ) → s < stackCount → state h s ≡ grayState →
     (event (ScanStack s) (run h (ScanStack s) .answer) ≡ Event.scanStack s) × (phase (run h (ScanStack s) .heap) ≡ mark)
 unfolding scanStack
-scan-event {h} F one s l e = rw (entry-passes h F, passed, eq-eqb (state h s) 2 e) (refl, root-other F (firstState + s) 1 (omega arith) phaseAt (omega arith) ∙ one)
+scan-event {h} F one s l e = rw (entry-passes h F, passed, eq-eqb (state h s) grayState e) (refl, root-other F (firstState + s) openState (omega arith) phaseAt (omega arith) ∙ one)
   where
     passed : (phaseRefusal h mark orElse openRefusal h s) ≡ 0
     passed = simp passes (one, (l, λ z. absurd (omega arith)))
@@ -59,7 +59,7 @@ scan-event {h} F one s l e = rw (entry-passes h F, passed, eq-eqb (state h s) 2 
 globals-event : {h : Heap} → Audited h → phase h ≡ mark → globalsState h ≡ grayState →
     (event ScanGlobals (run h ScanGlobals .answer) ≡ Event.scanGlobals) × (phase (run h ScanGlobals .heap) ≡ mark)
 unfolding scanGlobals
-globals-event {h} F one e = rw (entry-passes h F, passed, eq-eqb (globalsState h) 2 e) (refl, root-other F globalsStateAt 1 (omega arith) phaseAt (omega arith) ∙ one)
+globals-event {h} F one e = rw (entry-passes h F, passed, eq-eqb (globalsState h) grayState e) (refl, root-other F globalsStateAt openState (omega arith) phaseAt (omega arith) ∙ one)
   where
     passed : phaseRefusal h mark ≡ 0
     passed = simp passes one
@@ -74,12 +74,12 @@ mark-event {h} F one l = rw (entry-passes h F, passed, lt-ltb (firstGray h) (wor
 -- what is gray where finish is refused
 grays : (h : Heap) → phase h ≡ mark → finishRefusal h ≢ 0 → ((s : ℕ) × (s < stackCount) × (state h s ≡ grayState)) ⊎ ((globalsState h ≡ grayState) ⊎ (firstGray h < words h))
 unfolding finishRefusal _given_ _orElse_
-grays h one d = go (someBelow stackCount (λ s. eqb (state h s) 2)) refl (eqb (globalsState h) 2) refl (ltb (firstGray h) (words h)) refl (rw one at d)
+grays h one d = go (someBelow stackCount (λ s. eqb (state h s) grayState)) refl (eqb (globalsState h) grayState) refl (ltb (firstGray h) (words h)) refl (rw one at d)
   where
-    go : (a : Bool) → someBelow stackCount (λ s. eqb (state h s) 2) ≡ a → (b : Bool) → eqb (globalsState h) 2 ≡ b → (c : Bool) → ltb (firstGray h) (words h) ≡ c →
+    go : (a : Bool) → someBelow stackCount (λ s. eqb (state h s) grayState) ≡ a → (b : Bool) → eqb (globalsState h) grayState ≡ b → (c : Bool) → ltb (firstGray h) (words h) ≡ c →
         _≢_ {A = ℕ} (cond (a || b || c) unfinished 0) 0 → ((s : ℕ) × (s < stackCount) × (state h s ≡ grayState)) ⊎ ((globalsState h ≡ grayState) ⊎ (firstGray h < words h))
-    go true e b f c g n = let x = some-iff stackCount (λ s. eqb (state h s) 2) .0 (is-true _ e) in inl (x .0, x .1, eqb-true (state h (x .0)) 2 (of-true _ (x .2)))
-    go false e true f c g n = inr (inl (eqb-true (globalsState h) 2 f))
+    go true e b f c g n = let x = some-iff stackCount (λ s. eqb (state h s) grayState) .0 (is-true _ e) in inl (x .0, x .1, eqb-true (state h (x .0)) grayState (of-true _ (x .2)))
+    go false e true f c g n = inr (inl (eqb-true (globalsState h) grayState f))
     go false e false f true g n = inr (inr (ltb-true (firstGray h) (words h) g))
     go false e false f false g n = absurd (n refl)
 
@@ -254,7 +254,7 @@ unfolding sweepsIn
 sweeps-one P h {L} F N two l =
     let e = sweep-event F two l in
     let m = made P h F (N .agrees) (sweepOf P) in
-    let u = first-unswept P (h .table) l in
+    let u = unswept-found P (h .table) l in
     record {
       ledger = feed (eventOn h (sweepOf P)) L;
       counts = _;

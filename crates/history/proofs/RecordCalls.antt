@@ -28,18 +28,18 @@ use Rattle.model.proofs.Facts.{pointer-word}
 use Rattle.model.proofs.Checks.{passes, open-passed, slot-passed, slots-passed, global-passed, pointer-passed, number-passed, allocate-passed}
 use Rattle.history.specs.Ledger.{wordsOf}
 use Rattle.keeps.proofs.Roots.{root-at}
-use Rattle.keeps.proofs.Taken.{taken}
+use Rattle.keeps.proofs.Allotted.{allotted}
 use Rattle.keeps.proofs.Allocated.{choice}
 use Rattle.keeps.proofs.Calls.{slot-refers, global-refers, record-named}
 use Rattle.history.proofs.View.{view, slot-view, put-view}
 use Rattle.history.proofs.ViewShaded.{emptied-view, store-view, store-global-view}
-use Rattle.history.proofs.ViewTaken.{taken-step}
+use Rattle.history.proofs.ViewAllotted.{allotted-step}
 use Rattle.history.proofs.Steps.{Happens, by-refusal, slot-now, audit-view, see-slot, see-open, see-global, see-pointers, see-words, see-word}
 
 -- .. and so does one that an allocation took
-taken-now : {h : Heap} → Audited h → (s i w n p : ℕ) (u : List ℕ) → s < stackCount → i < slotCount → Value (addressOf w) ≡ Value (view (taken s i w n p (withTable u h)) .slots s i)
+allotted-now : {h : Heap} → Audited h → (s i w n p : ℕ) (u : List ℕ) → s < stackCount → i < slotCount → Value (addressOf w) ≡ Value (view (allotted s i w n p (withTable u h)) .slots s i)
 unfolding view
-taken-now {h} F s i w n p u a b = ap Value
+allotted-now {h} F s i w n p u a b = ap Value
     (sym (rw (
       lt-ltb s stackCount a,
       lt-ltb i slotCount b,
@@ -169,11 +169,11 @@ module _ {h : Heap} (F : Audited h) where
   pub allocate-happens : (s i size p : ℕ) → let o = allocate h s i size p in Happens h (Allocate s i size p) (o .answer) (o .heap)
   unfolding allocate newBits
   allocate-happens s i size p = by-refusal h (Allocate s i size p) (allocateRefusal h s i size p) (Value (addressOf w))
-      (taken s i w (wordsOf size) p (withTable (newTable h (kindOf size p) (pagesFor size)) h)) refl (λ e.
+      (allotted s i w (wordsOf size) p (withTable (newTable h (kindOf size p) (pagesFor size)) h)) refl (λ e.
       let x = allocate-passed h s i size p e in let o = x .stack in
       let C = choice F size p (takes size p (x .some) (x .limit) (x .pointers)) (x .room) in record {
-        step = taken-step F C s i (o .below) (x .slot) (audit-view F) (see-open h s (o .below) (o .isOpen));
-        said = taken-now F s i w (wordsOf size) p (newTable h (kindOf size p) (pagesFor size)) (o .below) (x .slot);
+        step = allotted-step F C s i (o .below) (x .slot) (audit-view F) (see-open h s (o .below) (o .isOpen));
+        said = allotted-now F s i w (wordsOf size) p (newTable h (kindOf size p) (pagesFor size)) (o .below) (x .slot);
       })
     where
       w : ℕ

@@ -40,15 +40,15 @@ cut [] ts A = (none, A)
 cut (s ∷ ss) ts (more x A) = let y = cut ss ts A in (more x (y .0), y .1)
 
 -- a stage, with those before and after it
-pub record At (P : ℕ) (h : Heap) (ss : List Stage) (s : Stage) (ts : List Stage) (h′ : Heap) : Type 0 where
+pub record StageAt (P : ℕ) (h : Heap) (ss : List Stage) (s : Stage) (ts : List Stage) (h′ : Heap) : Type 0 where
   pub before : Along P h ss (endOf h ss)
   pub here : StepOn P (endOf h ss) (s .event) (s .heap)
   pub later : Along P (s .heap) ts h′
 
-pub at : {P : ℕ} {h h′ : Heap} (ss : List Stage) (s : Stage) (ts : List Stage) → Along P h (ss ++ (s ∷ ts)) h′ → At P h ss s ts h′
+pub at : {P : ℕ} {h h′ : Heap} (ss : List Stage) (s : Stage) (ts : List Stage) → Along P h (ss ++ (s ∷ ts)) h′ → StageAt P h ss s ts h′
 at {P} {h} {h′} ss s ts A = let y = cut ss (s ∷ ts) A in go (y .0) (y .1)
   where
-    go : Along P h ss (endOf h ss) → Along P (endOf h ss) (s ∷ ts) h′ → At P h ss s ts h′
+    go : Along P h ss (endOf h ss) → Along P (endOf h ss) (s ∷ ts) h′ → StageAt P h ss s ts h′
     go B (more x C) = record { before = B; here = x; later = C }
 
 pub steps : {P : ℕ} {h h′ : Heap} {ss : List Stage} → Along P h ss h′ → Steps (view (onPages P h)) (eventsOf ss) (view (onPages P h′))

@@ -7,11 +7,11 @@ use mathlib.Core.Path.{_≡_, refl, ap, sym}
 use native.Mathlib.Omega.{arith}
 use lib.Dec.{T, eqb}
 use borrow.Author.Tests.{lt-ltb, eq-eqb, ne-eqb, eqb-true, eqb-false}
-use Rattle.marking.specs.WordHeap.{Phase, off, mark, sweep, LegalColours, recordIn}
+use Rattle.marking.specs.WordHeap.{Phase, LegalColours, recordIn}
 use Rattle.marking.specs.WordHeap
 use Rattle.marking.specs.Trace.{Step}
 use Rattle.marking.specs.Trace
-use Rattle.model.specs.Memory.{Heap, choose, setRoot, slot, global, state, phase, word, words, slotAt, stackCount, slotCount, globalCount, pageWords, closed}
+use Rattle.model.specs.Memory.{Heap, choose, setRoot, slot, global, state, phase, word, words, slotAt, stackCount, slotCount, globalCount, pageWords, closed, off, mark, sweep}
 use Rattle.model.specs.Spans.{spanOf, elementWords, pointerCount}
 use Rattle.model.specs.Answers.{outcome}
 use Rattle.model.specs.Calls.{Call}
@@ -59,16 +59,16 @@ slot-now {h} F s i v a b = ap Value (sym (rw (
 )))
 
 -- what the theory takes from the audit
-off-is : (n : ℕ) → phaseOf n ≡ off → n ≡ 0
-off-is n e = go (eqb n 0) refl (eqb n 1) e
+off-is : (n : ℕ) → phaseOf n ≡ Phase.off → n ≡ off
+off-is n e = go (eqb n off) refl (eqb n mark) e
   where
     code : Phase → ℕ
-    code off = 0
-    code mark = 1
-    code sweep = 2
+    code Phase.off = 0
+    code Phase.mark = 1
+    code Phase.sweep = 2
 
-    go : (a : Bool) → eqb n 0 ≡ a → (b : Bool) → cond a off (cond b mark sweep) ≡ off → n ≡ 0
-    go true p b q = eqb-true n 0 p
+    go : (a : Bool) → eqb n off ≡ a → (b : Bool) → cond a Phase.off (cond b Phase.mark Phase.sweep) ≡ Phase.off → n ≡ off
+    go true p b q = eqb-true n off p
     go false p true q = absurd (omega (arith, ap code q))
     go false p false q = absurd (omega (arith, ap code q))
 
@@ -82,8 +82,8 @@ audit-view {h} F = record {
       (and-false (not (Rattle.model.specs.Spans.isFree (h .table) (w / pageWords))));
 }
   where
-    two : T (eqb (phase h) 1) → phase h ≢ 2
-    two m q = omega (arith, eqb-true (phase h) 1 (of-true _ m))
+    two : T (eqb (phase h) mark) → phase h ≢ sweep
+    two m q = omega (arith, eqb-true (phase h) mark (of-true _ m))
 
 -- what the view says of a slot, a stack, a global, the phase
 pub see-slot : (h : Heap) (s i : ℕ) → s < stackCount → i < slotCount → view h .slots s i ≡ slot h s i
@@ -92,7 +92,7 @@ see-slot h s i a b = rw (lt-ltb s stackCount a, lt-ltb i slotCount b)
 
 pub see-open : (h : Heap) (s : ℕ) → s < stackCount → state h s ≢ closed → T (view h .opened s)
 unfolding view
-see-open h s a d = rw (lt-ltb s stackCount a, ne-eqb (state h s) 0 d) tt
+see-open h s a d = rw (lt-ltb s stackCount a, ne-eqb (state h s) closed d) tt
 
 pub see-global : (h : Heap) (g : ℕ) → g < globalCount → view h .globals g ≡ global h g
 unfolding view

@@ -30,7 +30,7 @@ use Rattle.model.specs.Facts.{Spans, Audited}
 use Rattle.model.specs.declared.Answer.{Answer}
 use Rattle.model.specs.declared.Answer.the-variants.{Value}
 use Rattle.model.proofs.Tests.{of-true, is-true}
-use Rattle.model.proofs.Bounded.{count-le}
+use Rattle.model.proofs.Bounded.{count-bound}
 use Rattle.model.proofs.Bitmaps.{bit-inside}
 use Rattle.model.proofs.Spans.{whole}
 use Rattle.model.proofs.Audit.{sized}
@@ -230,7 +230,7 @@ module _ (P : ℕ) (h : Heap) (F : Audited (onPages P h)) (Fr : Fresh (view (onP
         (omega (arith, claims (run-of rs .along) .advancing .toMarkBound stackCount, records-counted (onPages P (after h rs)) (reached-at (run-of rs .along)))) in
         (x .calls, x .collects, x .short, x .finish);
     ends = λ e. let x = ending P P (after h rs) (run-of rs .audited) (reached-at (run-of rs .along)) e
-        (count-le P (λ s. startsSpan (after h rs .table) s && isUnswept (after h rs .table) s)) in (x .steps, x .few, x .end);
+        (count-bound P (λ s. startsSpan (after h rs .table) s && isUnswept (after h rs .table) s)) in (x .steps, x .few, x .end);
   }
 
 -- THE THEOREM: after an accepted setup in any buffers h, for P pages, every list of requests

@@ -11,10 +11,10 @@ use lib.Dec.{eqb, ltb}
 use borrow.Author.Tests.{ltb-true, ltb-false, lt-ltb, eq-eqb, ne-eqb, eqb-true, eqb-false}
 use Rattle.marking.specs.Updates.{update, update2}
 use Rattle.marking.proofs.Updates.{update-is, update2-is}
-use Rattle.marking.specs.WordHeap.{Phase, off, mark, sweep, marking, ColourBits, Elements, heapAssign, heapPut, heapStart, heapEndCycle, WordHeap}
+use Rattle.marking.specs.WordHeap.{Phase, marking, ColourBits, Elements, heapAssign, heapPut, heapStart, heapEndCycle, WordHeap}
 use Rattle.marking.specs.WordHeap
 use Rattle.model.specs.Bounded.{firstBelow}
-use Rattle.model.specs.Memory.{Heap, withArena, withRoots, setRoot, slotAt, phase, stackCount, slotCount, globalCount, firstGlobal, firstState, globalsStateAt, phaseAt, rootWords, pageWords}
+use Rattle.model.specs.Memory.{Heap, withArena, withRoots, setRoot, slotAt, phase, stackCount, slotCount, globalCount, firstGlobal, firstState, globalsStateAt, phaseAt, rootWords, pageWords, off, mark, closed, grayState}
 use Rattle.model.specs.Bitmaps.{allocated, marked, gray, pointer, is}
 use Rattle.model.specs.Spans.{isFree, elementWords, spanOf}
 use Rattle.model.specs.Cycle.{scan}
@@ -24,7 +24,7 @@ use Rattle.model.specs.Facts.{Audited, bit, scanAt, unsweptAt}
 use Rattle.keeps.proofs.Roots.{root-at, root-other, started, started-at, started-low, started-state}
 
 abbrev pub phaseOf : ℕ → Phase
-phaseOf n = cond (eqb n 0) off (cond (eqb n 1) mark sweep)
+phaseOf n = cond (eqb n off) Phase.off (cond (eqb n mark) Phase.mark Phase.sweep)
 
 -- the span of word w is there and unswept
 unfoldable pub lateAt : List ℕ → ℕ → Bool
@@ -40,15 +40,15 @@ scansAt t w = scanAt t w
 unfoldable pub runFrom : (ℕ → Bool) → ℕ → ℕ → ℕ
 runFrom p w n = firstBelow n (λ f. not (p (w + f)))
 
-abbrev pub elementsOf : List ℕ → (ℕ → Bool) → Elements
-elementsOf t p = record { scan = scansAt t; pointers = λ w. runFrom p w (wordsAt t w); words = wordsAt t }
+abbrev pub elementsIn : List ℕ → (ℕ → Bool) → Elements
+elementsIn t p = record { scan = scansAt t; pointers = λ w. runFrom p w (wordsAt t w); words = wordsAt t }
 
 abbrev pub coloursOf : (P : ℕ) → List ℕ → List ℕ → ColourBits
 coloursOf P b r = record {
   marked = bit P marked b;
   gray = bit P gray b;
-  grayGlobals = eqb (getD r globalsStateAt 0) 2;
-  grayStack = λ s. ltb s stackCount && eqb (getD r (firstState + s) 0) 2;
+  grayGlobals = eqb (getD r globalsStateAt 0) grayState;
+  grayStack = λ s. ltb s stackCount && eqb (getD r (firstState + s) 0) grayState;
 }
 
 abbrev pub slotsOf : List ℕ → ℕ → ℕ → ℕ
@@ -65,12 +65,12 @@ unfoldable pub view : Heap → WordHeap
 view h = record {
   arena = λ w. getD (h .arena) w 0;
   allocated = is allocated h;
-  elements = elementsOf (h .table) (is pointer h);
+  elements = elementsIn (h .table) (is pointer h);
   unswept = lateAt (h .table);
   bits = coloursOf (h .pages) (h .bits) (h .roots);
   slots = slotsOf (h .roots);
   globals = globalsOf (h .roots);
-  opened = states (λ x. not (eqb x 0)) (h .roots);
+  opened = states (λ x. not (eqb x closed)) (h .roots);
   phase = phaseOf (getD (h .roots) phaseAt 0);
 }
 
@@ -82,11 +82,11 @@ pub heap-eq : {H K : WordHeap} → H .arena ≡ K .arena → H .allocated ≡ K 
     H .slots ≡ K .slots → H .globals ≡ K .globals → H .opened ≡ K .opened → H .phase ≡ K .phase → H ≡ K
 heap-eq a b c d e f g h j = λ i. record { arena = a i; allocated = b i; elements = c i; unswept = d i; bits = e i; slots = f i; globals = g i; opened = h i; phase = j i }
 
-pub marking-is : (n : ℕ) → marking (phaseOf n) ≡ eqb n 1
-marking-is n = go (eqb n 0) refl (eqb n 1) refl
+pub marking-is : (n : ℕ) → marking (phaseOf n) ≡ eqb n mark
+marking-is n = go (eqb n off) refl (eqb n mark) refl
   where
-    go : (a : Bool) → eqb n 0 ≡ a → (b : Bool) → eqb n 1 ≡ b → marking (cond a off (cond b mark sweep)) ≡ b
-    go true e true f = absurd (omega (arith, eqb-true n 0 e, eqb-true n 1 f))
+    go : (a : Bool) → eqb n off ≡ a → (b : Bool) → eqb n mark ≡ b → marking (cond a Phase.off (cond b Phase.mark Phase.sweep)) ≡ b
+    go true e true f = absurd (omega (arith, eqb-true n off e, eqb-true n mark f))
     go true e false f = refl
     go false e true f = refl
     go false e false f = refl
@@ -163,17 +163,17 @@ put-view {h} F w v l = heap-eq (arena-set h F w v l) refl refl refl refl refl re
     arena-set h F w v l = fun-ext (λ x. set-at (h .arena) w v (omega (arith, F .sized .arena)) x ∙ sym (update-is (λ (x : ℕ). getD (h .arena) x 0) w v x))
 
 -- the end of a cycle
-pub end-view : {h : Heap} → Audited h → view (setRoot phaseAt 0 h) ≡ heapEndCycle (view h)
+pub end-view : {h : Heap} → Audited h → view (setRoot phaseAt off h) ≡ heapEndCycle (view h)
 unfolding view heapEndCycle
 end-view {h} F = heap-eq refl refl refl refl
-    (colours-eq refl refl (rw (rest globalsStateAt (omega arith))) (states-same (λ x. eqb x 2) (set (h .roots) phaseAt 0) (h .roots) (λ x b c. rest x (omega arith))))
-    (slots-same (set (h .roots) phaseAt 0) (h .roots) (λ x l. rest x (omega arith)))
-    (globals-same (set (h .roots) phaseAt 0) (h .roots) (λ x b c. rest x (omega arith)))
-    (states-same (λ x. not (eqb x 0)) (set (h .roots) phaseAt 0) (h .roots) (λ x b c. rest x (omega arith)))
-    (ap phaseOf (root-at F phaseAt 0 (omega arith) phaseAt))
+    (colours-eq refl refl (rw (rest globalsStateAt (omega arith))) (states-same (λ x. eqb x grayState) (set (h .roots) phaseAt off) (h .roots) (λ x b c. rest x (omega arith))))
+    (slots-same (set (h .roots) phaseAt off) (h .roots) (λ x l. rest x (omega arith)))
+    (globals-same (set (h .roots) phaseAt off) (h .roots) (λ x b c. rest x (omega arith)))
+    (states-same (λ x. not (eqb x closed)) (set (h .roots) phaseAt off) (h .roots) (λ x b c. rest x (omega arith)))
+    (ap phaseOf (root-at F phaseAt off (omega arith) phaseAt))
   where
-    rest : (x : ℕ) → x ≢ phaseAt → getD (set (h .roots) phaseAt 0) x 0 ≡ getD (h .roots) x 0
-    rest = root-other F phaseAt 0 (omega arith)
+    rest : (x : ℕ) → x ≢ phaseAt → getD (set (h .roots) phaseAt off) x 0 ≡ getD (h .roots) x 0
+    rest = root-other F phaseAt off (omega arith)
 
 -- start
 pub start-view : {h : Heap} → Audited h → view (withRoots (started h) h) ≡ heapStart (view h)
@@ -193,10 +193,10 @@ start-view {h} F = heap-eq refl refl refl refl
     nil true = refl
     nil false = refl
 
-    gray′ : (t : ℕ) (p : Bool) → ltb t stackCount ≡ p → (p && eqb (getD (started h) (firstState + t) 0) 2) ≡ (p && not (eqb (getD (h .roots) (firstState + t) 0) 0))
-    gray′ t true e = rw (started-state F t (ltb-true t stackCount e)) (two (eqb (getD (h .roots) (firstState + t) 0) 0))
+    gray′ : (t : ℕ) (p : Bool) → ltb t stackCount ≡ p → (p && eqb (getD (started h) (firstState + t) 0) grayState) ≡ (p && not (eqb (getD (h .roots) (firstState + t) 0) closed))
+    gray′ t true e = rw (started-state F t (ltb-true t stackCount e)) (two (eqb (getD (h .roots) (firstState + t) 0) closed))
     gray′ t false e = refl
 
-    op : (t : ℕ) (p : Bool) → ltb t stackCount ≡ p → (p && not (eqb (getD (started h) (firstState + t) 0) 0)) ≡ (p && not (eqb (getD (h .roots) (firstState + t) 0) 0))
-    op t true e = rw (started-state F t (ltb-true t stackCount e)) (nil (eqb (getD (h .roots) (firstState + t) 0) 0))
+    op : (t : ℕ) (p : Bool) → ltb t stackCount ≡ p → (p && not (eqb (getD (started h) (firstState + t) 0) closed)) ≡ (p && not (eqb (getD (h .roots) (firstState + t) 0) closed))
+    op t true e = rw (started-state F t (ltb-true t stackCount e)) (nil (eqb (getD (h .roots) (firstState + t) 0) closed))
     op t false e = refl

@@ -11,7 +11,7 @@ use borrow.Author.Tests.{ltb-true, ltb-false, lt-ltb, ne-eqb, eqb-true, eqb-fals
 use Rattle.marking.specs.Updates.{update}
 use Rattle.marking.proofs.Updates.{update-is}
 use Rattle.marking.specs.WordHeap.{marking, ColourBits, shadeBits, shadeAllBits, heapStore, heapStoreGlobal, heapResetStack, heapScanStack, heapScanGlobals, heapMarkStep, stackScanned}
-use Rattle.model.specs.Memory.{Heap, withArena, withBits, setRoot, putWords, globalAt, stateAt, slot, global, word, phase, stackCount, slotCount, globalCount, firstGlobal, firstState, globalsStateAt, phaseAt, rootWords, pageWords}
+use Rattle.model.specs.Memory.{Heap, withArena, withBits, setRoot, putWords, globalAt, stateAt, slot, global, word, phase, stackCount, slotCount, globalCount, firstGlobal, firstState, globalsStateAt, phaseAt, rootWords, pageWords, mark, closed, openState, grayState}
 use Rattle.model.specs.Bitmaps.{Part, allocated, marked, gray, pointer, is, putBit}
 use Rattle.model.specs.Spans.{pointerCount, recordOf}
 use Rattle.model.specs.Shading.{shade, shadeAll, barrier}
@@ -26,16 +26,16 @@ use Rattle.model.proofs.Facts.{four}
 use Rattle.model.proofs.Named.{There}
 use Rattle.model.proofs.Shading.{shade-length, shade-marked, shade-gray, shade-other, all-four, all-other, all-suc, all-zero}
 use Rattle.keeps.proofs.Roots.{root-at, root-other, emptied-at}
-use Rattle.history.proofs.View.{view, phaseOf, scansAt, wordsAt, runFrom, elementsOf, coloursOf, slotsOf, globalsOf, states, colours-eq, heap-eq, marking-is, slots-same, globals-same, states-same, state-set}
+use Rattle.history.proofs.View.{view, phaseOf, scansAt, wordsAt, runFrom, elementsIn, coloursOf, slotsOf, globalsOf, states, colours-eq, heap-eq, marking-is, slots-same, globals-same, states-same, state-set}
 
 -- a stack is emptied, and open afterwards (n is 1) or closed (n is 0)
 pub emptied-view : {h : Heap} → Audited h → (s n : ℕ) (b : Bool) → s < stackCount → eqb n 2 ≡ false → not (eqb n 0) ≡ b → view (emptied h s n) ≡ heapResetStack s b (view h)
 unfolding view emptied heapResetStack
 emptied-view {h} F s n b l e2 e0 = heap-eq refl refl refl refl
-    (colours-eq refl refl (rw (rest globalsStateAt (omega arith) (omega arith))) (state-set (λ x. eqb x 2) mid s n false size l e2 ∙ ap (λ f. update f s false) (old (λ x. eqb x 2))))
+    (colours-eq refl refl (rw (rest globalsStateAt (omega arith) (omega arith))) (state-set (λ x. eqb x grayState) mid s n false size l e2 ∙ ap (λ f. update f s false) (old (λ x. eqb x grayState))))
     (fun-ext (λ t. fun-ext (λ i. rw (update-is (slotsOf (h .roots)) s (λ i. 0) t) (slots t i (ltb t stackCount) refl (ltb i slotCount) refl))))
     (fun-ext (λ g. globs g (ltb g globalCount) refl))
-    (state-set (λ x. not (eqb x 0)) mid s n b size l e0 ∙ ap (λ f. update f s b) (old (λ x. not (eqb x 0))))
+    (state-set (λ x. not (eqb x closed)) mid s n b size l e0 ∙ ap (λ f. update f s b) (old (λ x. not (eqb x closed))))
     (ap phaseOf (rest phaseAt (omega arith) (omega arith)))
   where
     mid : List ℕ
@@ -112,7 +112,7 @@ module _ {h : Heap} (F : Audited h) (old new : ℕ) (ho : There (h .pages) (h .t
 
   pub barrier-other : (q : Part) → samePart q marked ≡ false → samePart q gray ≡ false → bit (h .pages) q (barrier h old new) ≡ is q h
   unfolding barrier
-  barrier-other q x y = go (eqb (phase h) 1)
+  barrier-other q x y = go (eqb (phase h) mark)
     where
       go : (b : Bool) → bit P q (cond b (shade P (h .table) new first) (h .bits)) ≡ is q h
       go true = fun-ext (λ v. shade-other P (h .table) new first hn four′ q x y v ∙ shade-other P (h .table) old (h .bits) ho (four h (F .sized)) q x y v)
@@ -122,7 +122,7 @@ module _ {h : Heap} (F : Audited h) (old new : ℕ) (ho : There (h .pages) (h .t
       cond (marking (phaseOf (phase h))) (shadeBits (scansAt (h .table)) (recordOf (h .table)) new (shadeBits (scansAt (h .table)) (recordOf (h .table)) old (coloursOf (h .pages) (h .bits) (h .roots))))
       (coloursOf (h .pages) (h .bits) (h .roots))
   unfolding barrier
-  barrier-view r same = rw (marking-is (phase h)) (go (eqb (phase h) 1))
+  barrier-view r same = rw (marking-is (phase h)) (go (eqb (phase h) mark))
     where
       go : (b : Bool) → coloursOf P (cond b (shade P (h .table) new first) (h .bits)) r ≡
           cond b (shadeBits (scansAt (h .table)) (recordOf (h .table)) new (shadeBits (scansAt (h .table)) (recordOf (h .table)) old (coloursOf P (h .bits) (h .roots)))) (coloursOf P (h .bits) (h .roots))
@@ -137,7 +137,7 @@ pub store-view : {h : Heap} → Audited h → (w v : ℕ) → w < pageWords * h 
 unfolding view heapStore
 store-view {h} F w v l k o = heap-eq
     (fun-ext (λ x. set-at (h .arena) w v (omega (arith, F .sized .arena)) x ∙ sym (update-is (λ (x : ℕ). getD (h .arena) x 0) w v x)))
-    (barrier-other F (word h w) v o k allocated refl refl) (ap (elementsOf (h .table)) (barrier-other F (word h w) v o k pointer refl refl))
+    (barrier-other F (word h w) v o k allocated refl refl) (ap (elementsIn (h .table)) (barrier-other F (word h w) v o k pointer refl refl))
     refl (barrier-view F (word h w) v o k (h .roots) refl) refl refl refl refl
 
 -- store to a global
@@ -145,7 +145,7 @@ pub store-global-view : {h : Heap} → Audited h → (g v : ℕ) → g < globalC
     view (setRoot (globalAt g) v (withBits (barrier h (global h g) v) h)) ≡ heapStoreGlobal g v (view h)
 unfolding view heapStoreGlobal
 store-global-view {h} F g v l k o = heap-eq refl
-    (barrier-other F (global h g) v o k allocated refl refl) (ap (elementsOf (h .table)) (barrier-other F (global h g) v o k pointer refl refl))
+    (barrier-other F (global h g) v o k allocated refl refl) (ap (elementsIn (h .table)) (barrier-other F (global h g) v o k pointer refl refl))
     refl (rw (lt-ltb g globalCount l) (barrier-view F (global h g) v o k r same))
     (slots-same r (h .roots) (λ x b. rest x (omega arith)))
     (fun-ext (λ x. rw (
@@ -153,7 +153,7 @@ store-global-view {h} F g v l k o = heap-eq refl
       eqb-shift firstGlobal x g,
       update-is (globalsOf (h .roots)) g v x,
     ) (glob x (eqb x g) refl)))
-    (states-same (λ x. not (eqb x 0)) r (h .roots) (λ x b c. rest x (omega arith)))
+    (states-same (λ x. not (eqb x closed)) r (h .roots) (λ x b c. rest x (omega arith)))
     (ap phaseOf (rest phaseAt (omega arith)))
   where
     r : List ℕ
@@ -163,7 +163,7 @@ store-global-view {h} F g v l k o = heap-eq refl
     rest = root-other F (firstGlobal + g) v (omega arith)
 
     same : coloursOf (h .pages) (h .bits) r ≡ coloursOf (h .pages) (h .bits) (h .roots)
-    same = colours-eq refl refl (rw (rest globalsStateAt (omega arith))) (states-same (λ x. eqb x 2) r (h .roots) (λ x b c. rest x (omega arith)))
+    same = colours-eq refl refl (rw (rest globalsStateAt (omega arith))) (states-same (λ x. eqb x grayState) r (h .roots) (λ x b c. rest x (omega arith)))
 
     glob : (x : ℕ) (b : Bool) → eqb x g ≡ b → cond (ltb x globalCount) (cond b v (getD (h .roots) (firstGlobal + x) 0)) 0 ≡ cond b v (cond (ltb x globalCount) (getD (h .roots) (firstGlobal + x) 0) 0)
     glob x true e = rw (eqb-true x g e, lt-ltb g globalCount l)
@@ -183,16 +183,16 @@ update-id f s v e = fun-ext (λ x. rw (update-is f s v x) (go x (eqb x s) refl))
     go x false p = refl
 
 -- scan a stack
-pub scan-stack-view : {h : Heap} → Audited h → (s : ℕ) → s < stackCount → eqb (getD (h .roots) (firstState + s) 0) 0 ≡ false → ((i : ℕ) → i < slotCount → There (h .pages) (h .table) (slot h s i)) →
+pub scan-stack-view : {h : Heap} → Audited h → (s : ℕ) → s < stackCount → eqb (getD (h .roots) (firstState + s) 0) closed ≡ false → ((i : ℕ) → i < slotCount → There (h .pages) (h .table) (slot h s i)) →
     view (scan slotCount (slot h s) (stateAt s) h) ≡ heapScanStack s (view h)
 unfolding view heapScanStack
 scan-stack-view {h} F s l op th = heap-eq refl (fun-ext (λ v. all-other P t (slot h s) (h .bits) f slotCount th allocated refl refl v))
-    (ap (elementsOf t) (fun-ext (λ v. all-other P t (slot h s) (h .bits) f slotCount th pointer refl refl v))) refl
+    (ap (elementsIn t) (fun-ext (λ v. all-other P t (slot h s) (h .bits) f slotCount th pointer refl refl v))) refl
     (flagged ∙ ap (stackScanned s) (all-view P t (slot h s) (h .bits) f slotCount th (h .roots) ∙
     all-cong (scansAt t) (recordOf t) (slot h s) (slotsOf (h .roots) s) slotCount (coloursOf P (h .bits) (h .roots)) (λ i b. rw (lt-ltb s stackCount l, lt-ltb i slotCount b))))
     (slots-same r (h .roots) (λ x b. rest x (omega arith)))
     (globals-same r (h .roots) (λ x b c. rest x (omega arith)))
-    (state-set (λ x. not (eqb x 0)) (h .roots) s 1 true (F .sized .roots) l refl ∙ update-id (states (λ x. not (eqb x 0)) (h .roots)) s true (rw (lt-ltb s stackCount l, op)))
+    (state-set (λ x. not (eqb x closed)) (h .roots) s openState true (F .sized .roots) l refl ∙ update-id (states (λ x. not (eqb x closed)) (h .roots)) s true (rw (lt-ltb s stackCount l, op)))
     (ap phaseOf (rest phaseAt (omega arith)))
   where
     P : ℕ
@@ -205,13 +205,13 @@ scan-stack-view {h} F s l op th = heap-eq refl (fun-ext (λ v. all-other P t (sl
     f = four h (F .sized)
 
     r : List ℕ
-    r = set (h .roots) (firstState + s) 1
+    r = set (h .roots) (firstState + s) openState
 
     rest : (x : ℕ) → x ≢ firstState + s → getD r x 0 ≡ getD (h .roots) x 0
-    rest = root-other F (firstState + s) 1 (omega arith)
+    rest = root-other F (firstState + s) openState (omega arith)
 
     flagged : coloursOf P (shadeAll P t slotCount (slot h s) (h .bits)) r ≡ stackScanned s (coloursOf P (shadeAll P t slotCount (slot h s) (h .bits)) (h .roots))
-    flagged = colours-eq refl refl (rw (rest globalsStateAt (omega arith))) (state-set (λ x. eqb x 2) (h .roots) s 1 false (F .sized .roots) l refl)
+    flagged = colours-eq refl refl (rw (rest globalsStateAt (omega arith))) (state-set (λ x. eqb x grayState) (h .roots) s openState false (F .sized .roots) l refl)
 
 -- scan the globals
 abbrev flags : Bool → (ℕ → Bool) → ColourBits → ColourBits
@@ -220,13 +220,13 @@ flags a b B = record { marked = B .marked; gray = B .gray; grayGlobals = a; gray
 pub scan-globals-view : {h : Heap} → Audited h → ((i : ℕ) → i < globalCount → There (h .pages) (h .table) (global h i)) → view (scan globalCount (global h) globalsStateAt h) ≡ heapScanGlobals globalCount (view h)
 unfolding view heapScanGlobals
 scan-globals-view {h} F th = heap-eq refl (fun-ext (λ v. all-other P t (global h) (h .bits) f globalCount th allocated refl refl v))
-    (ap (elementsOf t) (fun-ext (λ v. all-other P t (global h) (h .bits) f globalCount th pointer refl refl v))) refl
+    (ap (elementsIn t) (fun-ext (λ v. all-other P t (global h) (h .bits) f globalCount th pointer refl refl v))) refl
     (all-view P t (global h) (h .bits) f globalCount th r ∙ ap (shadeAllBits (scansAt t) (recordOf t) (global h) globalCount) flagged
-    ∙ all-cong (scansAt t) (recordOf t) (global h) (globalsOf (h .roots)) globalCount (flags false (states (λ x. eqb x 2) (h .roots)) (coloursOf P (h .bits) (h .roots)))
+    ∙ all-cong (scansAt t) (recordOf t) (global h) (globalsOf (h .roots)) globalCount (flags false (states (λ x. eqb x grayState) (h .roots)) (coloursOf P (h .bits) (h .roots)))
     (λ i b. rw (lt-ltb i globalCount b)))
     (slots-same r (h .roots) (λ x b. rest x (omega arith)))
     (globals-same r (h .roots) (λ x b c. rest x (omega arith)))
-    (states-same (λ x. not (eqb x 0)) r (h .roots) (λ x b c. rest x (omega arith)))
+    (states-same (λ x. not (eqb x closed)) r (h .roots) (λ x b c. rest x (omega arith)))
     (ap phaseOf (rest phaseAt (omega arith)))
   where
     P : ℕ
@@ -239,20 +239,20 @@ scan-globals-view {h} F th = heap-eq refl (fun-ext (λ v. all-other P t (global 
     f = four h (F .sized)
 
     r : List ℕ
-    r = set (h .roots) globalsStateAt 1
+    r = set (h .roots) globalsStateAt openState
 
     rest : (x : ℕ) → x ≢ globalsStateAt → getD r x 0 ≡ getD (h .roots) x 0
-    rest = root-other F globalsStateAt 1 (omega arith)
+    rest = root-other F globalsStateAt openState (omega arith)
 
-    flagged : coloursOf P (h .bits) r ≡ flags false (states (λ x. eqb x 2) (h .roots)) (coloursOf P (h .bits) (h .roots))
-    flagged = colours-eq refl refl (rw (root-at F globalsStateAt 1 (omega arith) globalsStateAt)) (states-same (λ x. eqb x 2) r (h .roots) (λ x b c. rest x (omega arith)))
+    flagged : coloursOf P (h .bits) r ≡ flags false (states (λ x. eqb x grayState) (h .roots)) (coloursOf P (h .bits) (h .roots))
+    flagged = colours-eq refl refl (rw (root-at F globalsStateAt openState (omega arith) globalsStateAt)) (states-same (λ x. eqb x grayState) r (h .roots) (λ x b c. rest x (omega arith)))
 
 -- a mark step
 pub mark-view : {h : Heap} → Audited h → (w : ℕ) → w < pageWords * h .pages → ((f : ℕ) → f < pointerCount h w → There (h .pages) (h .table) (word h (w + f))) →
     view (withBits (scanRecord w h) h) ≡ heapMarkStep w (view h .elements .pointers w) (view h)
 unfolding view scanRecord heapMarkStep runFrom wordsAt
 mark-view {h} F w l th = heap-eq refl (fun-ext (λ v. all-other P t g b f n th allocated refl refl v ∙ out allocated refl v))
-    (ap (elementsOf t) (fun-ext (λ v. all-other P t g b f n th pointer refl refl v ∙ out pointer refl v))) refl
+    (ap (elementsIn t) (fun-ext (λ v. all-other P t g b f n th pointer refl refl v ∙ out pointer refl v))) refl
     (all-view P t g b f n th (h .roots) ∙ ap (shadeAllBits (scansAt t) (recordOf t) g n) (colours-eq (fun-ext (λ v. out marked refl v)) gray′ refl refl))
     refl refl refl refl
   where

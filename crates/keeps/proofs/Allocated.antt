@@ -22,7 +22,7 @@ use Rattle.model.specs.Facts.{Spans, IsSpan, Sized, Audited, Bits, Phases, Refe
 use Rattle.model.proofs.Effects.{room-is, room-words}
 use Rattle.model.proofs.Named.{kept-allocated, refers-over}
 use Rattle.keeps.proofs.Tables.{Chosen, Vacant, like-scan, like-words, like-element, carve-spans, carve-bits, carve-like, carve-unswept, carve-chosen, which, new-entry, used-same}
-use Rattle.keeps.proofs.Taken.{taken, taken-kept}
+use Rattle.keeps.proofs.Allotted.{allotted, allotted-kept}
 
 -- the element of n words at word w, in page table u, suits a record of p pointers; the words allocated before see no change
 pub record Choice (h : Heap) (u : List ℕ) (w n p : ℕ) : Type 0 where
@@ -44,9 +44,9 @@ pub record Choice (h : Heap) (u : List ℕ) (w n p : ℕ) : Type 0 where
 
 -- to take it keeps the audit
 pub chosen-kept : {h : Heap} {u : List ℕ} {w n p : ℕ} → Audited h → Choice h u w n p → (s i : ℕ) → s < stackCount → i < slotCount → state h s ≢ closed →
-    Audited (taken s i w n p (withTable u h))
+    Audited (allotted s i w n p (withTable u h))
 chosen-kept {h} {u} {w} {n} {p} F C s i hs hi o =
-    rw (C .word, C .words) at (taken-kept {h = withTable u h} (C .sized) (C .spans) (C .bits) (C .chosen) s i hs hi (C .phases) (C .references) (F .states) o (C .occupied))
+    rw (C .word, C .words) at (allotted-kept {h = withTable u h} (C .sized) (C .spans) (C .bits) (C .chosen) s i hs hi (C .phases) (C .references) (F .states) o (C .occupied))
 
 -- a free element of a span that is there
 pub old-choice : {h : Heap} → Audited h → {r k p : ℕ} → Chosen (h .pages) (h .table) (h .bits) r k p →

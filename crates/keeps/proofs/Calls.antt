@@ -30,14 +30,14 @@ use Rattle.model.proofs.Rules.{tests}
 use Rattle.model.proofs.Classes.{takes}
 use Rattle.model.proofs.Bitmaps.{bit-inside}
 use Rattle.model.proofs.Spans.{fits}
-use Rattle.model.proofs.Named.{named}
+use Rattle.model.proofs.Named.{kept-element}
 use Rattle.model.proofs.Facts.{pointer-word}
 use Rattle.model.proofs.Audit.{sized-good}
 use Rattle.model.proofs.Checks.{passes, orElse-iff, open-passed, slot-passed, slots-passed, global-passed, pointer-passed, number-passed, allocate-passed, finish-passed, entry-passes}
 use Rattle.keeps.proofs.Refusals.{phase-not, open-not, closed-not, slot-not, slots-not, global-not, pointer-not, field-not, allocate-not, scan-not, finish-not}
 use Rattle.keeps.proofs.Roots.{Refers, slot-kept, emptied-kept, started, started-kept, ended-kept}
 use Rattle.keeps.proofs.Shaded.{store-kept, store-global-kept, put-kept, scan-stack-kept, scan-globals-kept, mark-kept}
-use Rattle.keeps.proofs.Taken.{taken}
+use Rattle.keeps.proofs.Allotted.{allotted}
 use Rattle.keeps.proofs.Allocated.{choice, chosen-kept}
 use Rattle.keeps.proofs.SweptTable.{swept}
 use Rattle.keeps.proofs.Swept.{swept-kept}
@@ -60,13 +60,13 @@ by-refusal {h} F n d a done z e f = go (eqb n 0) refl
     go false p = record { pages = e; audited = rw e F; sound = d }
 
 -- the gray record and the unswept span that the searches find
-pub first-gray : (h : Heap) → firstGray h < words h → T (is gray h (firstGray h))
+pub gray-found : (h : Heap) → firstGray h < words h → T (is gray h (firstGray h))
 unfolding firstGray
-first-gray h l = is-true _ (first-props (words h) (is gray h) .holds l)
+gray-found h l = is-true _ (first-props (words h) (is gray h) .holds l)
 
-pub first-unswept : (P : ℕ) (t : List ℕ) → firstUnswept P t < P → IsSpan t (firstUnswept P t) × (unsweptFlag ≤ kindEntry t (firstUnswept P t))
+pub unswept-found : (P : ℕ) (t : List ℕ) → firstUnswept P t < P → IsSpan t (firstUnswept P t) × (unsweptFlag ≤ kindEntry t (firstUnswept P t))
 unfolding firstUnswept
-first-unswept P t l = simp tests at (is-true (startsSpan t (firstUnswept P t) && isUnswept t (firstUnswept P t)) (first-props P (λ s. startsSpan t s && isUnswept t s) .holds l))
+unswept-found P t l = simp tests at (is-true (startsSpan t (firstUnswept P t) && isUnswept t (firstUnswept P t)) (first-props P (λ s. startsSpan t s && isUnswept t s) .holds l))
 
 pub none-unswept : {h : Heap} → Audited h → h .pages ≤ firstUnswept (h .pages) (h .table) → (s : ℕ) → IsSpan (h .table) s → kindEntry (h .table) s < unsweptFlag
 unfolding firstUnswept
@@ -85,7 +85,7 @@ module _ {h : Heap} (F : Audited h) where
 
   pub record-named : (s j : ℕ) → s < stackCount → j < slotCount → slot h s j ≢ 0 →
       T (is allocated h (recordAt h s j)) × T (kept h (recordAt h s j)) × (recordAt h s j < pageWords * h .pages)
-  record-named s j a b d = named (F .bits) (slot h s j) d (slot-refers s j a b)
+  record-named s j a b d = kept-element (F .bits) (slot h s j) d (slot-refers s j a b)
 
   open-keeps : (s : ℕ) → Keeps h (openStack h s)
   unfolding openStack emptied
@@ -152,7 +152,7 @@ module _ {h : Heap} (F : Audited h) where
   allocate-keeps : (s i size p : ℕ) → Keeps h (allocate h s i size p)
   unfolding allocate newBits
   allocate-keeps s i size p = by-refusal F (allocateRefusal h s i size p) (allocate-not h s i size p) (Value (addressOf w))
-      (taken s i w (elementWordsOf (classOf size) (pagesFor size)) p (withTable (newTable h (kindOf size p) (pagesFor size)) h)) (omega arith) refl (λ e.
+      (allotted s i w (elementWordsOf (classOf size) (pagesFor size)) p (withTable (newTable h (kindOf size p) (pagesFor size)) h)) (omega arith) refl (λ e.
       let x = allocate-passed h s i size p e in let o = x .stack in
       chosen-kept F (choice F size p (takes size p (x .some) (x .limit) (x .pointers)) (x .room)) s i (o .below) (x .slot) (o .isOpen))
     where
@@ -192,7 +192,7 @@ module _ {h : Heap} (F : Audited h) where
       (λ e. go (ltb (firstGray h) (words h)) refl (simp passes at e))
     where
       go : (b : Bool) → ltb (firstGray h) (words h) ≡ b → phase h ≡ mark → Audited (choose b (withBits (scanRecord (firstGray h) h) h) h)
-      go true e one = mark-kept F one (firstGray h) (first-gray h (ltb-true (firstGray h) (words h) e))
+      go true e one = mark-kept F one (firstGray h) (gray-found h (ltb-true (firstGray h) (words h) e))
       go false e one = F
 
   sweep-step-keeps : Keeps h (sweepStep h)
@@ -209,7 +209,7 @@ module _ {h : Heap} (F : Audited h) where
       answers false = omega arith
 
       go : (b : Bool) → ltb s (h .pages) ≡ b → phase h ≡ sweep → Audited (choose b (swept s h) (setRoot phaseAt off h))
-      go true e two = let x = first-unswept (h .pages) (h .table) (ltb-true s (h .pages) e) in swept-kept F s (x .0) (x .1) two
+      go true e two = let x = unswept-found (h .pages) (h .table) (ltb-true s (h .pages) e) in swept-kept F s (x .0) (x .1) two
       go false e two = ended-kept F two (none-unswept F (ltb-false s (h .pages) e))
 
   finish-keeps : (finishRefusal h ≡ 0 → References (finished h)) → Keeps h (finish h)

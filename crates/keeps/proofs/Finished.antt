@@ -9,7 +9,7 @@ use native.Mathlib.Omega.{arith}
 use lib.ListN.{getD, set, length-set, List·getD-eq-default}
 use lib.Dec.{eqb}
 use borrow.Author.Tests.{le-leb, eq-eqb, ne-eqb}
-use Rattle.model.specs.Memory.{Heap, withTable, setRoot, phase, pageWords, unsweptFlag, slotCount, firstState, globalsStateAt, phaseAt, mark}
+use Rattle.model.specs.Memory.{Heap, withTable, setRoot, phase, pageWords, unsweptFlag, slotCount, firstState, globalsStateAt, phaseAt, mark, sweep}
 use Rattle.model.specs.Spans.{owner, pageCount, kindEntry, spanOf, putPages}
 use Rattle.model.specs.Cycle.{unsweptPage}
 use Rattle.model.specs.Facts.{Spans, GoodEntry, Audited, Bits, References, unsweptAt}
@@ -17,9 +17,9 @@ use Rattle.model.proofs.Tests.{is-true, cond-same}
 use Rattle.model.proofs.Bounded.{within, within-false}
 use Rattle.model.proofs.Table.{pages-length, pages-owner, pages-count, pages-kind}
 use Rattle.model.proofs.Spans.{span-of}
-use Rattle.model.proofs.Checks.{Finishes}
+use Rattle.model.proofs.Checks.{NothingGray}
 use Rattle.keeps.proofs.Roots.{root-at, root-other}
-use Rattle.keeps.proofs.Tables.{Same, Like, like, bits-like}
+use Rattle.keeps.proofs.Tables.{SamePage, Like, like, bits-like}
 
 -- the table after a finish
 abbrev pub unsweptTable : Heap → List ℕ
@@ -27,7 +27,7 @@ unsweptTable h = putPages 0 (h .pages) (unsweptPage (h .table)) (h .table)
 
 -- the heap after a finish
 abbrev pub finished : Heap → Heap
-finished h = setRoot phaseAt 2 (withTable (unsweptTable h) h)
+finished h = setRoot phaseAt sweep (withTable (unsweptTable h) h)
 
 module _ {h : Heap} (F : Audited h) where
   abbrev t : List ℕ
@@ -57,7 +57,7 @@ module _ {h : Heap} (F : Audited h) where
           far (inl l) = absurd (omega arith)
           far (inr l) = omega (arith, past x (omega arith))
 
-  finish-same : (x : ℕ) → Same t u x
+  finish-same : (x : ℕ) → SamePage t u x
   finish-same x = let f = finish-at x in (f .0, f .1, rw (f .2) (go (eqb (owner t x) (x + 1))))
     where
       go : (b : Bool) → (kindEntry t x + cond b unsweptFlag 0) % unsweptFlag ≡ kindEntry t x % unsweptFlag
@@ -92,7 +92,7 @@ module _ {h : Heap} (F : Audited h) where
   finish-bits = bits-like (λ w _. finish-like w) (F .bits)
 
   -- finish keeps the audit, if the references of the result are right
-  pub finish-kept : Finishes h → References (finished h) → Audited (finished h)
+  pub finish-kept : NothingGray h → References (finished h) → Audited (finished h)
   finish-kept N R = record {
     sized = record {
       low = F .sized .low;
@@ -100,7 +100,7 @@ module _ {h : Heap} (F : Audited h) where
       arena = F .sized .arena;
       table = pages-length (h .pages) 0 (h .pages) (unsweptPage t) t (omega arith) (F .sized .table);
       bits = F .sized .bits;
-      roots = length-set (h .roots) phaseAt 2 ∙ F .sized .roots;
+      roots = length-set (h .roots) phaseAt sweep ∙ F .sized .roots;
     };
     spans = finish-spans (N .phase);
     bits = finish-bits;
@@ -120,8 +120,8 @@ module _ {h : Heap} (F : Audited h) where
     occupied = λ s e. let f = F .occupied s (rw (finish-at s .0) at e) in (f .0, f .1, finish-like (f .0) .at ∙ f .2);
   }
     where
-      now : getD (set (h .roots) phaseAt 2) phaseAt 0 ≡ 2
-      now = root-at F phaseAt 2 (omega arith) phaseAt
+      now : getD (set (h .roots) phaseAt sweep) phaseAt 0 ≡ sweep
+      now = root-at F phaseAt sweep (omega arith) phaseAt
 
-      rest : (x : ℕ) → x ≢ phaseAt → getD (set (h .roots) phaseAt 2) x 0 ≡ getD (h .roots) x 0
-      rest = root-other F phaseAt 2 (omega arith)
+      rest : (x : ℕ) → x ≢ phaseAt → getD (set (h .roots) phaseAt sweep) x 0 ≡ getD (h .roots) x 0
+      rest = root-other F phaseAt sweep (omega arith)

@@ -62,7 +62,7 @@ fresh-kept h Z = record {
     grays = λ w a. absurd (none gray w a);
     pointers = λ w a. absurd (none pointer w a);
     head = λ w a. absurd (none allocated w a);
-    run = λ w a. absurd (none pointer w a);
+    unbroken = λ w a. absurd (none pointer w a);
   };
   phases = record {
     none = λ e w. no-bit (pageWords * h .pages) (bitmapWords * h .pages) marked w;

@@ -8,7 +8,7 @@ use native.Mathlib.Omega.{arith}
 use lib.ListN.{getD, set, length, length-set}
 use lib.Dec.{eqb}
 use borrow.Author.Tests.{eq-eqb, ne-eqb, eqb-true, eqb-false}
-use Rattle.model.specs.Memory.{Heap, withRoots, setRoot, putWords, slotAt, globalAt, stateAt, stackCount, slotCount, globalCount, firstGlobal, firstState, globalsStateAt, phaseAt, rootWords, unsweptFlag}
+use Rattle.model.specs.Memory.{Heap, withRoots, setRoot, putWords, slotAt, globalAt, stateAt, stackCount, slotCount, globalCount, firstGlobal, firstState, globalsStateAt, phaseAt, rootWords, unsweptFlag, off, mark, sweep, closed, openState, grayState}
 use Rattle.model.specs.Bitmaps.{is, marked}
 use Rattle.model.specs.Spans.{kindEntry}
 use Rattle.model.specs.Records.{emptied}
@@ -42,7 +42,7 @@ pub root-other : {h : Heap} → Audited h → (i v : ℕ) → i < rootWords → 
 root-other {h} F i v l x d = rw (root-at F i v l x, ne-eqb x i d)
 
 -- a slot of an open stack is set (copy, clear, load, load of a global)
-pub slot-kept : {h : Heap} → Audited h → (s i v : ℕ) → s < stackCount → i < slotCount → getD (h .roots) (firstState + s) 0 ≢ 0 → Refers h v → Audited (setRoot (slotAt s i) v h)
+pub slot-kept : {h : Heap} → Audited h → (s i v : ℕ) → s < stackCount → i < slotCount → getD (h .roots) (firstState + s) 0 ≢ closed → Refers h v → Audited (setRoot (slotAt s i) v h)
 slot-kept {h} F s i v hs hi o r =
     roots-kept F (set (h .roots) (slotCount * s + i) v) (length-set (h .roots) (slotCount * s + i) v ∙ F .sized .roots) (rw (rest phaseAt (omega arith)) (F .phases))
     (record {
@@ -91,7 +91,7 @@ emptied-kept {h} F s n hs hn =
       phase = rw (high phaseAt (omega arith)) (F .states .phase);
       legal = λ x l. rw (state x, high phaseAt (omega arith)) (legal x l (eqb x s));
       globals = rw (high globalsStateAt (omega arith), high phaseAt (omega arith)) (F .states .globals);
-      closed = λ x j l m e. rw (low (slotCount * x + j) (omega arith)) (closed x j l m (rw (state x) at e) (within (slotCount * s + 0) slotCount (slotCount * x + j)) refl);
+      closed = λ x j l m e. rw (low (slotCount * x + j) (omega arith)) (nil-there x j l m (rw (state x) at e) (within (slotCount * s + 0) slotCount (slotCount * x + j)) refl);
     })
     (λ x l. rw (low x l) (root x l (within (slotCount * s + 0) slotCount x)))
   where
@@ -117,14 +117,14 @@ emptied-kept {h} F s n hs hn =
     state : (x : ℕ) → getD r (firstState + x) 0 ≡ cond (eqb x s) n (getD (h .roots) (firstState + x) 0)
     state x = rw (at (firstState + x), shift x, within-high (slotCount * s + 0) slotCount (firstState + x) (omega arith))
 
-    legal : (x : ℕ) → x < stackCount → (c : Bool) → (cond c n (getD (h .roots) (firstState + x) 0) ≤ 2) × (cond c n (getD (h .roots) (firstState + x) 0) ≡ 2 → getD (h .roots) phaseAt 0 ≡ 1)
+    legal : (x : ℕ) → x < stackCount → (c : Bool) → (cond c n (getD (h .roots) (firstState + x) 0) ≤ grayState) × (cond c n (getD (h .roots) (firstState + x) 0) ≡ grayState → getD (h .roots) phaseAt 0 ≡ mark)
     legal x l true = (omega arith, λ e. absurd (omega arith))
     legal x l false = F .states .legal x l
 
-    closed : (x j : ℕ) → x < stackCount → j < slotCount → cond (eqb x s) n (getD (h .roots) (firstState + x) 0) ≡ 0 → (c : Bool) → within (slotCount * s + 0) slotCount (slotCount * x + j) ≡ c →
+    nil-there : (x j : ℕ) → x < stackCount → j < slotCount → cond (eqb x s) n (getD (h .roots) (firstState + x) 0) ≡ closed → (c : Bool) → within (slotCount * s + 0) slotCount (slotCount * x + j) ≡ c →
         cond c 0 (getD (h .roots) (slotCount * x + j) 0) ≡ 0
-    closed x j l m e true q = refl
-    closed x j l m e false q = F .states .closed x j l m
+    nil-there x j l m e true q = refl
+    nil-there x j l m e false q = F .states .closed x j l m
         (rw (ne-eqb x s (λ y. true≢false (sym (within-yes (slotCount * s + 0) slotCount (slotCount * x + j) (omega arith) (omega arith)) ∙ q))) at e)
 
     root : (x : ℕ) → x < firstState → (c : Bool) → Refers h (cond c 0 (getD (h .roots) x 0))
@@ -151,35 +151,35 @@ global-kept {h} F g v hg r =
     go x l false = F .references .root x l
 
 -- the state of an open stack becomes 1
-pub scanned-kept : {h : Heap} → Audited h → (s : ℕ) → s < stackCount → getD (h .roots) (firstState + s) 0 ≢ 0 → Audited (setRoot (stateAt s) 1 h)
+pub scanned-kept : {h : Heap} → Audited h → (s : ℕ) → s < stackCount → getD (h .roots) (firstState + s) 0 ≢ closed → Audited (setRoot (stateAt s) openState h)
 scanned-kept {h} F s hs o =
-    roots-kept F (set (h .roots) (firstState + s) 1) (length-set (h .roots) (firstState + s) 1 ∙ F .sized .roots) (rw (rest phaseAt (omega arith)) (F .phases))
+    roots-kept F (set (h .roots) (firstState + s) openState) (length-set (h .roots) (firstState + s) openState ∙ F .sized .roots) (rw (rest phaseAt (omega arith)) (F .phases))
     (record {
       phase = rw (rest phaseAt (omega arith)) (F .states .phase);
       legal = λ x l. rw (at (firstState + x), rest phaseAt (omega arith)) (legal x l (eqb (firstState + x) (firstState + s)));
       globals = rw (rest globalsStateAt (omega arith), rest phaseAt (omega arith)) (F .states .globals);
-      closed = λ x j l m e. rw (rest (slotCount * x + j) (omega arith)) (F .states .closed x j l m (closed x (eqb (firstState + x) (firstState + s)) (rw (at (firstState + x)) at e)));
+      closed = λ x j l m e. rw (rest (slotCount * x + j) (omega arith)) (F .states .closed x j l m (nil-there x (eqb (firstState + x) (firstState + s)) (rw (at (firstState + x)) at e)));
     })
     (λ x l. rw (rest x (omega arith)) (F .references .root x l))
   where
-    at : (x : ℕ) → getD (set (h .roots) (firstState + s) 1) x 0 ≡ cond (eqb x (firstState + s)) 1 (getD (h .roots) x 0)
-    at = root-at F (firstState + s) 1 (omega arith)
+    at : (x : ℕ) → getD (set (h .roots) (firstState + s) openState) x 0 ≡ cond (eqb x (firstState + s)) openState (getD (h .roots) x 0)
+    at = root-at F (firstState + s) openState (omega arith)
 
-    rest : (x : ℕ) → x ≢ firstState + s → getD (set (h .roots) (firstState + s) 1) x 0 ≡ getD (h .roots) x 0
-    rest = root-other F (firstState + s) 1 (omega arith)
+    rest : (x : ℕ) → x ≢ firstState + s → getD (set (h .roots) (firstState + s) openState) x 0 ≡ getD (h .roots) x 0
+    rest = root-other F (firstState + s) openState (omega arith)
 
-    legal : (x : ℕ) → x < stackCount → (c : Bool) → (cond c 1 (getD (h .roots) (firstState + x) 0) ≤ 2) × (cond c 1 (getD (h .roots) (firstState + x) 0) ≡ 2 → getD (h .roots) phaseAt 0 ≡ 1)
+    legal : (x : ℕ) → x < stackCount → (c : Bool) → (cond c openState (getD (h .roots) (firstState + x) 0) ≤ grayState) × (cond c openState (getD (h .roots) (firstState + x) 0) ≡ grayState → getD (h .roots) phaseAt 0 ≡ mark)
     legal x l true = (omega arith, λ e. absurd (omega arith))
     legal x l false = F .states .legal x l
 
-    closed : (x : ℕ) (c : Bool) → cond c 1 (getD (h .roots) (firstState + x) 0) ≡ 0 → getD (h .roots) (firstState + x) 0 ≡ 0
-    closed x true e = absurd (omega arith)
-    closed x false e = e
+    nil-there : (x : ℕ) (c : Bool) → cond c openState (getD (h .roots) (firstState + x) 0) ≡ closed → getD (h .roots) (firstState + x) 0 ≡ closed
+    nil-there x true e = absurd (omega arith)
+    nil-there x false e = e
 
 -- the globals' state becomes 1
-pub globals-kept : {h : Heap} → Audited h → Audited (setRoot globalsStateAt 1 h)
+pub globals-kept : {h : Heap} → Audited h → Audited (setRoot globalsStateAt openState h)
 globals-kept {h} F =
-    roots-kept F (set (h .roots) globalsStateAt 1) (length-set (h .roots) globalsStateAt 1 ∙ F .sized .roots) (rw (rest phaseAt (omega arith)) (F .phases))
+    roots-kept F (set (h .roots) globalsStateAt openState) (length-set (h .roots) globalsStateAt openState ∙ F .sized .roots) (rw (rest phaseAt (omega arith)) (F .phases))
     (record {
       phase = rw (rest phaseAt (omega arith)) (F .states .phase);
       legal = λ x l. rw (rest (firstState + x) (omega arith), rest phaseAt (omega arith)) (F .states .legal x l);
@@ -188,38 +188,38 @@ globals-kept {h} F =
     })
     (λ x l. rw (rest x (omega arith)) (F .references .root x l))
   where
-    at : (x : ℕ) → getD (set (h .roots) globalsStateAt 1) x 0 ≡ cond (eqb x globalsStateAt) 1 (getD (h .roots) x 0)
-    at = root-at F globalsStateAt 1 (omega arith)
+    at : (x : ℕ) → getD (set (h .roots) globalsStateAt openState) x 0 ≡ cond (eqb x globalsStateAt) openState (getD (h .roots) x 0)
+    at = root-at F globalsStateAt openState (omega arith)
 
-    rest : (x : ℕ) → x ≢ globalsStateAt → getD (set (h .roots) globalsStateAt 1) x 0 ≡ getD (h .roots) x 0
-    rest = root-other F globalsStateAt 1 (omega arith)
+    rest : (x : ℕ) → x ≢ globalsStateAt → getD (set (h .roots) globalsStateAt openState) x 0 ≡ getD (h .roots) x 0
+    rest = root-other F globalsStateAt openState (omega arith)
 
 -- the roots after a start
 abbrev pub grayed : Heap → List ℕ
-grayed h = putWords firstState stackCount (λ i. cond (eqb (getD (h .roots) i 0) 0) 0 2) (h .roots)
+grayed h = putWords firstState stackCount (λ i. cond (eqb (getD (h .roots) i 0) closed) closed grayState) (h .roots)
 
 abbrev pub started : Heap → List ℕ
-started h = set (set (grayed h) globalsStateAt 2) phaseAt 1
+started h = set (set (grayed h) globalsStateAt grayState) phaseAt mark
 
 module _ {h : Heap} (F : Audited h) where
   gray-length : length (grayed h) ≡ rootWords
-  gray-length = words-length rootWords firstState stackCount (λ i. cond (eqb (getD (h .roots) i 0) 0) 0 2) (h .roots) (omega arith) (F .sized .roots)
+  gray-length = words-length rootWords firstState stackCount (λ i. cond (eqb (getD (h .roots) i 0) closed) closed grayState) (h .roots) (omega arith) (F .sized .roots)
 
   pub started-length : length (started h) ≡ rootWords
   started-length = simp length-set gray-length
 
-  pub started-at : (x : ℕ) → getD (started h) x 0 ≡ cond (eqb x phaseAt) 1
-      (cond (eqb x globalsStateAt) 2 (cond (within firstState stackCount x) (cond (eqb (getD (h .roots) x 0) 0) 0 2) (getD (h .roots) x 0)))
+  pub started-at : (x : ℕ) → getD (started h) x 0 ≡ cond (eqb x phaseAt) mark
+      (cond (eqb x globalsStateAt) grayState (cond (within firstState stackCount x) (cond (eqb (getD (h .roots) x 0) closed) closed grayState) (getD (h .roots) x 0)))
   started-at x = rw (
-    set-at (set (grayed h) globalsStateAt 2) phaseAt 1 (simp length-set (omega (arith, gray-length))) x,
-    set-at (grayed h) globalsStateAt 2 (omega (arith, gray-length)) x,
-    words-at rootWords firstState stackCount (λ i. cond (eqb (getD (h .roots) i 0) 0) 0 2) (h .roots) (omega arith) (F .sized .roots) x,
+    set-at (set (grayed h) globalsStateAt grayState) phaseAt mark (simp length-set (omega (arith, gray-length))) x,
+    set-at (grayed h) globalsStateAt grayState (omega (arith, gray-length)) x,
+    words-at rootWords firstState stackCount (λ i. cond (eqb (getD (h .roots) i 0) closed) closed grayState) (h .roots) (omega arith) (F .sized .roots) x,
   )
 
   pub started-low : (x : ℕ) → x < firstState → getD (started h) x 0 ≡ getD (h .roots) x 0
   started-low x l = rw (started-at x, ne-eqb x phaseAt (omega arith), ne-eqb x globalsStateAt (omega arith), within-low firstState stackCount x l)
 
-  pub started-state : (s : ℕ) → s < stackCount → getD (started h) (firstState + s) 0 ≡ cond (eqb (getD (h .roots) (firstState + s) 0) 0) 0 2
+  pub started-state : (s : ℕ) → s < stackCount → getD (started h) (firstState + s) 0 ≡ cond (eqb (getD (h .roots) (firstState + s) 0) closed) closed grayState
   started-state s l = rw (
     started-at (firstState + s),
     ne-eqb (firstState + s) phaseAt (omega arith),
@@ -227,7 +227,7 @@ module _ {h : Heap} (F : Audited h) where
     within-yes firstState stackCount (firstState + s) (omega arith) (omega arith),
   )
 
-  pub started-kept : getD (h .roots) phaseAt 0 ≡ 0 → Audited (withRoots (started h) h)
+  pub started-kept : getD (h .roots) phaseAt 0 ≡ off → Audited (withRoots (started h) h)
   started-kept nil =
       roots-kept F (started h) started-length (rw (started-at phaseAt) (record {
         none = λ e. absurd (omega arith);
@@ -237,10 +237,10 @@ module _ {h : Heap} (F : Audited h) where
       }))
       (record {
         phase = rw (started-at phaseAt) (omega arith);
-        legal = λ x l. rw (started-state x l) (legal (eqb (getD (h .roots) (firstState + x) 0) 0), λ e. started-at phaseAt);
+        legal = λ x l. rw (started-state x l) (legal (eqb (getD (h .roots) (firstState + x) 0) closed), λ e. started-at phaseAt);
         globals = rw (started-at globalsStateAt) (omega arith, omega arith, λ e. started-at phaseAt);
         closed = λ x j l m e. rw (started-low (slotCount * x + j) (omega arith))
-            (F .states .closed x j l m (closed x (eqb (getD (h .roots) (firstState + x) 0) 0) refl (rw (started-state x l) at e)));
+            (F .states .closed x j l m (nil-there x (eqb (getD (h .roots) (firstState + x) 0) closed) refl (rw (started-state x l) at e)));
       })
       (λ x l. rw (started-low x l) (F .references .root x l))
     where
@@ -248,15 +248,15 @@ module _ {h : Heap} (F : Audited h) where
       legal true = omega arith
       legal false = omega arith
 
-      closed : (x : ℕ) (b : Bool) → eqb (getD (h .roots) (firstState + x) 0) 0 ≡ b → cond {A = ℕ} b 0 2 ≡ 0 → getD (h .roots) (firstState + x) 0 ≡ 0
-      closed x true e z = eqb-true (getD (h .roots) (firstState + x) 0) 0 e
-      closed x false e z = absurd (omega arith)
+      nil-there : (x : ℕ) (b : Bool) → eqb (getD (h .roots) (firstState + x) 0) closed ≡ b → cond {A = ℕ} b closed grayState ≡ closed → getD (h .roots) (firstState + x) 0 ≡ closed
+      nil-there x true e z = eqb-true (getD (h .roots) (firstState + x) 0) closed e
+      nil-there x false e z = absurd (omega arith)
 
 -- the end of a cycle: nothing is unswept
-pub ended-kept : {h : Heap} → Audited h → getD (h .roots) phaseAt 0 ≡ 2 → ((s : ℕ) → IsSpan (h .table) s → kindEntry (h .table) s < unsweptFlag) → Audited (setRoot phaseAt 0 h)
+pub ended-kept : {h : Heap} → Audited h → getD (h .roots) phaseAt 0 ≡ sweep → ((s : ℕ) → IsSpan (h .table) s → kindEntry (h .table) s < unsweptFlag) → Audited (setRoot phaseAt off h)
 ended-kept {h} F two swept =
-    roots-kept F (set (h .roots) phaseAt 0) (length-set (h .roots) phaseAt 0 ∙ F .sized .roots) (rw now (record {
-      none = λ e v. off v (is marked h v) refl;
+    roots-kept F (set (h .roots) phaseAt off) (length-set (h .roots) phaseAt off ∙ F .sized .roots) (rw now (record {
+      none = λ e v. unmarked v (is marked h v) refl;
       swept = λ d. swept;
       plain = λ d. F .phases .plain (λ e. absurd (omega arith));
       unswept = λ e. absurd (omega arith);
@@ -269,13 +269,13 @@ ended-kept {h} F two swept =
     })
     (λ x l. rw (rest x (omega arith)) (F .references .root x l))
   where
-    now : getD (set (h .roots) phaseAt 0) phaseAt 0 ≡ 0
-    now = root-at F phaseAt 0 (omega arith) phaseAt
+    now : getD (set (h .roots) phaseAt off) phaseAt 0 ≡ off
+    now = root-at F phaseAt off (omega arith) phaseAt
 
-    rest : (x : ℕ) → x ≢ phaseAt → getD (set (h .roots) phaseAt 0) x 0 ≡ getD (h .roots) x 0
-    rest = root-other F phaseAt 0 (omega arith)
+    rest : (x : ℕ) → x ≢ phaseAt → getD (set (h .roots) phaseAt off) x 0 ≡ getD (h .roots) x 0
+    rest = root-other F phaseAt off (omega arith)
 
-    off : (v : ℕ) (b : Bool) → is marked h v ≡ b → b ≡ false
-    off v true x = absurd (true≢false (sym (of-true _ (F .phases .unswept two v (is-true _ x))) ∙
+    unmarked : (v : ℕ) (b : Bool) → is marked h v ≡ b → b ≡ false
+    unmarked v true x = absurd (true≢false (sym (of-true _ (F .phases .unswept two v (is-true _ x))) ∙
         swept-all (F .spans) swept (Rattle.model.specs.Spans.spanOf (h .table) v)))
-    off v false x = refl
+    unmarked v false x = refl

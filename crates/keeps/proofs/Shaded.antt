@@ -9,7 +9,7 @@ use native.Mathlib.Omega.{arith}
 use lib.ListN.{getD, set, length-set}
 use lib.Dec.{T, eqb, eqb→eq}
 use borrow.Author.Tests.{eq-eqb, eqb-true, eqb-false}
-use Rattle.model.specs.Memory.{Heap, withArena, withBits, setRoot, slot, global, root, word, phase, stateAt, globalAt, stackCount, slotCount, globalCount, firstGlobal, firstState, globalsStateAt, pageWords, mark}
+use Rattle.model.specs.Memory.{Heap, withArena, withBits, setRoot, slot, global, root, word, phase, stateAt, globalAt, stackCount, slotCount, globalCount, firstGlobal, firstState, globalsStateAt, pageWords, mark, closed}
 use Rattle.model.specs.Bitmaps.{Part, allocated, marked, gray, pointer, is, putBit}
 use Rattle.model.specs.Spans.{elementOf, spanOf, kept, pointerCount, elementWords, recordOf}
 use Rattle.model.specs.Shading.{shade, shadeAll, barrier}
@@ -19,7 +19,7 @@ use Rattle.model.proofs.Words.{set-at}
 use Rattle.model.proofs.Bitmaps.{samePart, part-at, part-length, bit-inside}
 use Rattle.model.specs.Facts.{Audited, bit, scanAt, unsweptAt, keptAt}
 use Rattle.model.proofs.Facts.{four, not-unswept, pointer-word, no-pointer}
-use Rattle.model.proofs.Named.{There, named, reference-there, refers-over}
+use Rattle.model.proofs.Named.{There, kept-element, reference-there, refers-over}
 use Rattle.model.proofs.Shading.{shade-length, shade-marked, shade-gray, shade-other}
 use Rattle.keeps.proofs.Roots.{Refers, global-kept, scanned-kept, globals-kept}
 
@@ -51,7 +51,7 @@ module _ {h : Heap} (F : Audited h) (one : phase h ≡ mark) (v : ℕ) (r : Refe
 
   -- the shaded record is allocated
   target : v ≢ 0 → T (is allocated h (recordOf t v))
-  target d = named (F .bits) v d r .0
+  target d = kept-element (F .bits) v d r .0
 
   pub shade-refers : (x : ℕ) → Refers h x → Refers (withBits (shade (h .pages) (h .table) v (h .bits)) h) x
   shade-refers = refers-over P t t (h .bits) b′ (λ w k. rw (kept-same w) k)
@@ -86,7 +86,7 @@ module _ {h : Heap} (F : Audited h) (one : phase h ≡ mark) (v : ℕ) (r : Refe
       grays = λ w x. grays w (eqb v 0) refl (rw (g-is w) at x);
       pointers = λ w x. let f = F .bits .pointers w (rw (p-same w) at x) in (f .0, f .1, rw (a-same (elementOf t w)) (f .2));
       head = λ w x c. rw (p-same w) (F .bits .head w (rw (a-same w) at x) c);
-      run = λ w x l. rw (p-same (w - 1)) (F .bits .run w (rw (p-same w) at x) l);
+      unbroken = λ w x l. rw (p-same (w - 1)) (F .bits .unbroken w (rw (p-same w) at x) l);
     };
     phases = record {
       none = λ e. absurd (omega arith);
@@ -154,13 +154,13 @@ arena-kept {h} F w v l r = record {
 pub barrier-kept : {h : Heap} → Audited h → (old new : ℕ) → Refers h old → Refers h new →
     Audited (withBits (barrier h old new) h) × ((x : ℕ) → Refers h x → Refers (withBits (barrier h old new) h) x)
 unfolding barrier
-barrier-kept {h} F old new ro rn = go (eqb (phase h) 1) refl
+barrier-kept {h} F old new ro rn = go (eqb (phase h) mark) refl
   where
-    go : (b : Bool) → eqb (phase h) 1 ≡ b →
+    go : (b : Bool) → eqb (phase h) mark ≡ b →
         let m = cond b (shade (h .pages) (h .table) new (shade (h .pages) (h .table) old (h .bits))) (h .bits) in
         Audited (withBits m h) × ((x : ℕ) → Refers h x → Refers (withBits m h) x)
     go true e =
-        let one = eqb-true (phase h) 1 e in
+        let one = eqb-true (phase h) mark e in
         let F₁ = shade-kept F one old ro in
         let r₁ = shade-refers F one old ro new rn in
         (shade-kept F₁ one new r₁, λ x y. shade-refers F₁ one new r₁ x (shade-refers F one old ro x y))
@@ -186,7 +186,7 @@ all-kept {h} F one value (suc n) r =
     (shade-kept (f .0) one (value n) q, λ x y. shade-refers (f .0) one (value n) q x (f .1 x y))
 
 -- a stack is scanned, and the globals
-pub scan-stack-kept : {h : Heap} → Audited h → phase h ≡ mark → (s : ℕ) → s < stackCount → getD (h .roots) (firstState + s) 0 ≢ 0 → Audited (scan slotCount (slot h s) (stateAt s) h)
+pub scan-stack-kept : {h : Heap} → Audited h → phase h ≡ mark → (s : ℕ) → s < stackCount → getD (h .roots) (firstState + s) 0 ≢ closed → Audited (scan slotCount (slot h s) (stateAt s) h)
 scan-stack-kept {h} F one s hs o = scanned-kept (all-kept F one (slot h s) slotCount (λ i l. F .references .root (slotCount * s + i) (omega arith)) .0) s hs o
 
 pub scan-globals-kept : {h : Heap} → Audited h → phase h ≡ mark → Audited (scan globalCount (global h) globalsStateAt h)
@@ -213,7 +213,7 @@ ungray-kept {h} F w l = (
       grays = λ v x. let f = F .bits .grays v (less v x) in (rw (same marked refl v) (f .0), f .1);
       pointers = λ v x. let f = F .bits .pointers v (rw (same pointer refl v) at x) in (f .0, f .1, rw (same allocated refl (elementOf (h .table) v)) (f .2));
       head = λ v x c. rw (same pointer refl v) (F .bits .head v (rw (same allocated refl v) at x) c);
-      run = λ v x m. rw (same pointer refl (v - 1)) (F .bits .run v (rw (same pointer refl v) at x) m);
+      unbroken = λ v x m. rw (same pointer refl (v - 1)) (F .bits .unbroken v (rw (same pointer refl v) at x) m);
     };
     phases = record {
       none = λ e v. rw (same marked refl v) (F .phases .none e v);

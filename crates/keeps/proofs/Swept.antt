@@ -162,7 +162,7 @@ module _ {h : Heap} (F : Audited h) (s : ℕ) (span : IsSpan (h .table) s) (unsw
     pointers = λ v x. let f = was-p v x in let g = F .bits .pointers v (f .0) in
         (like-in (f .2) (g .0), rw (like-scan (f .2)) (g .1), rw (like-element (f .2), at allocated (elementOf t v)) (f .1));
     head = λ v x c. let y = rw (at allocated v) at x in rw (head-bit v y) (F .bits .head v (was-a v y) (rw (like-scan (stay-like v y)) at c));
-    run = λ v x l. let f = was-p v x in rw (at pointer (v - 1)) (runs v (f .0) (f .1) (rw (like-element (f .2)) at l));
+    unbroken = λ v x l. let f = was-p v x in rw (at pointer (v - 1)) (runs v (f .0) (f .1) (rw (like-element (f .2)) at l));
   }
     where
       zero′ : (v : ℕ) → v + 0 ≡ v
@@ -189,8 +189,8 @@ module _ {h : Heap} (F : Audited h) (s : ℕ) (span : IsSpan (h .table) s) (unsw
               start-same t s (elementOf t v) (v - 1) (rw c at (E .first)) (omega (arith, round (F .spans) v y))
               (omega (arith, round (F .spans) v y, ap (elementWords t) z)) in
               rw (q-between v (v - 1) y (omega (arith, round (F .spans) v y)) (omega arith), e, w)
-              (and-iff (is pointer h (v - 1)) (m (elementOf t v)) .1 (F .bits .run v p l, o))
-          go false e o = rw (q-between v (v - 1) y (omega (arith, round (F .spans) v y)) (omega arith), e) (F .bits .run v p l)
+              (and-iff (is pointer h (v - 1)) (m (elementOf t v)) .1 (F .bits .unbroken v p l, o))
+          go false e o = rw (q-between v (v - 1) y (omega (arith, round (F .spans) v y)) (omega arith), e) (F .bits .unbroken v p l)
 
       marks : (v : ℕ) (b : Bool) → T (cond b false (m v)) → T (cond b (m v) (a v))
       marks v true x = absurd x

@@ -16,7 +16,7 @@ use Rattle.model.proofs.Bounded.{within, within-yes, within-low, within-high, w
 use Rattle.model.proofs.Table.{page-length, owner-put, count-put, kind-put, pages-length, pages-owner, pages-count, pages-kind}
 use Rattle.model.specs.Facts.{Spans, IsSpan, GoodEntry, Audited}
 use Rattle.model.proofs.Spans.{fits}
-use Rattle.keeps.proofs.Tables.{Same}
+use Rattle.keeps.proofs.Tables.{SamePage}
 
 -- a choice of two places outside a run
 pub within-no : (b n x : ℕ) → ((x < b) ⊎ (b + n ≤ x)) → within b n x ≡ false
@@ -112,10 +112,10 @@ module _ {h : Heap} (F : Audited h) (s : ℕ) (span : IsSpan (h .table) s) where
           go false p = refl
 
   -- a page outside the span, or any if an element is left, is the same but for the flag
-  pub same-out : (x : ℕ) → within s (pageCount (h .table) s) x ≡ false → Same t u x
+  pub same-out : (x : ℕ) → within s (pageCount (h .table) s) x ≡ false → SamePage t u x
   same-out x e = let f = outside x e in (f .0, f .1, rw (f .2))
 
-  pub same-left : nothingLeft h s ≡ false → (x : ℕ) → Same t u x
+  pub same-left : nothingLeft h s ≡ false → (x : ℕ) → SamePage t u x
   same-left b x = let f = stays b x in (f .0, f .1, rw (f .2) (go (eqb x s) refl))
     where
       go : (c : Bool) → eqb x s ≡ c → cond c (kindEntry t s % unsweptFlag) (kindEntry t x) % unsweptFlag ≡ kindEntry t x % unsweptFlag

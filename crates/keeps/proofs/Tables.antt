@@ -1,5 +1,5 @@
 -- Page tables that say the same of a word, but for the unswept flag, and a new span in free pages: the facts stay, the allocated words see no
--- change, and the new span's first element may be taken.
+-- change, and the new span's first element may be allotted.
 use Prim.Native.Nat.{ℕ, _+_, _-_, _/_, _%_, _<_, _≤_}
 use mathlib.Core.List.{List}
 use mathlib.Core.Bool.{Bool, true, false}
@@ -20,8 +20,8 @@ use Rattle.model.specs.Facts.{Spans, IsSpan, GoodEntry, InElement, Element, Bit
 use Rattle.model.proofs.Spans.{span-of, entry-fits}
 
 -- two tables say the same of a page, but for the flag
-abbrev pub Same : List ℕ → List ℕ → ℕ → Type 0
-Same t u g = (owner u g ≡ owner t g) × (pageCount u g ≡ pageCount t g) × (kindEntry u g % unsweptFlag ≡ kindEntry t g % unsweptFlag)
+abbrev pub SamePage : List ℕ → List ℕ → ℕ → Type 0
+SamePage t u g = (owner u g ≡ owner t g) × (pageCount u g ≡ pageCount t g) × (kindEntry u g % unsweptFlag ≡ kindEntry t g % unsweptFlag)
 
 -- .. and so of a word
 pub record Like (t u : List ℕ) (w : ℕ) : Type 0 where
@@ -30,10 +30,10 @@ pub record Like (t u : List ℕ) (w : ℕ) : Type 0 where
   pub class : kindEntry u (spanOf t w) % unsweptFlag ≡ kindEntry t (spanOf t w) % unsweptFlag
   pub long : pageCount u (spanOf t w) ≡ pageCount t (spanOf t w)
 
-pub same-words : (t u : List ℕ) (g : ℕ) → Same t u g → elementWords u g ≡ elementWords t g
+pub same-words : (t u : List ℕ) (g : ℕ) → SamePage t u g → elementWords u g ≡ elementWords t g
 same-words t u g e = rw (e .2, e .1)
 
-pub like : (t u : List ℕ) (w : ℕ) → Same t u (w / pageWords) → Same t u (spanOf t w) → Like t u w
+pub like : (t u : List ℕ) (w : ℕ) → SamePage t u (w / pageWords) → SamePage t u (spanOf t w) → Like t u w
 like t u w a b = record { page = a .0; at = rw (a .0); class = b .2; long = b .1 }
 
 module _ {t u : List ℕ} {w : ℕ} (L : Like t u w) where
@@ -64,7 +64,7 @@ bits-like {P} {t} {u} {b} L C = record {
   grays = λ w g. (C .grays w g .0, rw (like-scan (L w (used w g))) (C .grays w g .1));
   pointers = λ w p. let f = C .pointers w p in let l = L w (f .0 .used) in (like-in l (f .0), rw (like-scan l) (f .1), rw (like-element l) (f .2));
   head = λ w a s. C .head w a (rw (like-scan (L w (C .element w a .lies .used))) at s);
-  run = λ w p d. C .run w p (rw (like-element (L w (C .pointers w p .0 .used))) at d);
+  unbroken = λ w p d. C .unbroken w p (rw (like-element (L w (C .pointers w p .0 .used))) at d);
 }
   where
     used : (w : ℕ) → T (bit P gray b w) → 0 < owner t (w / pageWords)
@@ -176,7 +176,7 @@ module _ {P : ℕ} {t : List ℕ} (k : PageTable P t) (F : Spans P t) {s n kind 
   pub carve-like : (w : ℕ) → 0 < owner t (w / pageWords) → Like t (putPages s n (spanPage s n kind) t) w
   carve-like w h = like t u w (same (w / pageWords) h) (same (spanOf t w) (omega (arith, span-of F w h)))
     where
-      same : (g : ℕ) → 0 < owner t g → Same t u g
+      same : (g : ℕ) → 0 < owner t g → SamePage t u g
       same g h = (used-same g h .0, used-same g h .1, rw (used-same g h .2))
 
   pub carve-bits : {b : List ℕ} → Bits P t b → Bits P (putPages s n (spanPage s n kind) t) b

@@ -5,7 +5,7 @@ use mathlib.Core.Bool.{Bool, true, false, not, cond, _&&_}
 use Prim.Native.Nat.{ℕ, suc, _+_, _≤_, _<_}
 use native.Mathlib.Omega.{arith}
 use lib.Dec.{T}
-use Rattle.marking.proofs.Updates.{clash, and-both, and-left, and-right}
+use Rattle.marking.proofs.Updates.{contradicts, and-both, and-left, and-right}
 use Rattle.marking.specs.Effect.{asNumber}
 use Rattle.model.proofs.Bounded
 use Rattle.marking.specs.Count.{count}
@@ -33,7 +33,7 @@ toMark-bound : (n : ℕ) (L : Ledger) (H : WordHeap) → toMark n L H ≤ n + 1 
 unfolding toMark
 toMark-bound n L H = omega (
   arith,
-  Bounded.count-le n (H .bits .grayStack),
+  Bounded.count-bound n (H .bits .grayStack),
   one (H .bits .grayGlobals),
   count-le (λ x. isAllocated L H x && not (isBlack L H x)) (isAllocated L H) (suc (L .count)) (λ x _ _ t. and-left (isAllocated L H x) _ t),
 )
@@ -77,10 +77,10 @@ module _ {H : WordHeap} {L : Ledger} {S : State} {Y : Layout} (R : Agrees H L S 
   unfolding feed
   advance n (Trace.scanStack s A q) (scan _ h g) = falls n (Collecting.scan s) (Refinement.step-scanStack R s A q)
       (scan-falls S (R .invariant) (phased R p) n s h (rw (R .represents .colours (rw (phased R p) tt) .grayStack s) at g))
-  advance n (Trace.rescanStack s q w) (scan _ h g) = clash (H .bits .grayStack s) g w
+  advance n (Trace.rescanStack s q w) (scan _ h g) = contradicts (H .bits .grayStack s) g w
   advance n (Trace.scanGlobals A q) (globals g) = falls n Collecting.globals (Refinement.step-scanGlobals R A q)
       (globals-falls S (R .invariant) (phased R p) n (rw (R .represents .colours (rw (phased R p) tt) .grayGlobals) at g))
-  advance n (Trace.rescanGlobals q w) (globals g) = clash (H .bits .grayGlobals) g w
+  advance n (Trace.rescanGlobals q w) (globals g) = contradicts (H .bits .grayGlobals) g w
   advance n (Trace.markStep w A q g) step =
       let r = Refinement.step-markStep R w A q g in
       falls n (Collecting.step (r .0)) (r .1) (mark-falls S (R .invariant) (phased R p) n (r .0) (r .1 .allowed .1) (r .1 .allowed .2))

@@ -6,8 +6,10 @@ use mathlib.Core.Logic.{_⊎_, inl, inr, _≢_}
 use Prim.Native.Nat.{ℕ, suc, _<_}
 use native.Mathlib.Omega.{arith}
 use lib.Dec.{T, eqb, eqb→eq}
+use borrow.Author.Tests.{ne-eqb}
 use Rattle.marking.specs.Updates.{update}
-use Rattle.marking.proofs.Updates.{update-other, update-is, update2-is, test, of-true, of-false, differ, eqb-no}
+use Rattle.model.proofs.Tests.{of-true, of-false}
+use Rattle.marking.proofs.Updates.{update-other, update-is, update2-is, test, differ}
 use Rattle.model.specs.Memory.{globalCount, addressOf}
 use Rattle.marking.proofs.Graph.{Graph, Shape, setSlot, setField, emptyStack, birth}
 use Rattle.marking.proofs.Operations.{State, initial}
@@ -62,7 +64,7 @@ module _ {L : Ledger} {Y : Layout} {G : Graph} (Q : Describes L Y G) where
   describes-field x f v h = record {
     opened = Q .opened;
     slot = Q .slot;
-    global = λ g. rw (update2-is (G .field) x f v 0 g, eqb-no 0 x (omega arith)) (Q .global g);
+    global = λ g. rw (update2-is (G .field) x f v 0 g, ne-eqb 0 x (omega arith)) (Q .global g);
     born = Q .born;
     pointers = Q .pointers;
     globals = Q .globals;
@@ -80,7 +82,7 @@ module _ {L : Ledger} {Y : Layout} {G : Graph} (Q : Describes L Y G) where
     born = Q .born;
     pointers = Q .pointers;
     globals = Q .globals;
-    pointer = λ y f k. rw (update2-is (G .field) 0 g v y f, eqb-no y 0 (omega arith)) (Q .pointer y f k);
+    pointer = λ y f k. rw (update2-is (G .field) 0 g v y f, ne-eqb y 0 (omega arith)) (Q .pointer y f k);
     address = Q .address;
     words = Q .words;
   }
@@ -178,7 +180,7 @@ empty-describes = record {
   slot = λ t i. refl;
   global = λ g. refl;
   born = refl;
-  pointers = λ x h. rw (eqb-no x 0 (omega arith));
+  pointers = λ x h. rw (ne-eqb x 0 (omega arith));
   globals = refl;
   pointer = λ x f h. refl;
   address = λ x h k. absurd (omega arith);

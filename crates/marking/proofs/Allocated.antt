@@ -6,7 +6,8 @@ use Prim.Native.Nat.{ℕ, zero, suc, _+_, _≤_, _<_}
 use native.Mathlib.Omega.{arith}
 use lib.Dec.{T, eqb}
 use Rattle.marking.specs.Updates.{update}
-use Rattle.marking.proofs.Updates.{added-old, added-new, added-only, test, differ, is-true, and-left, and-right}
+use Rattle.model.proofs.Tests.{is-true}
+use Rattle.marking.proofs.Updates.{added-old, added-new, added-only, test, differ, and-left, and-right}
 use Rattle.marking.specs.Effect.{asNumber}
 use Rattle.model.specs.Bounded.{countBelow}
 use Rattle.marking.specs.Count.{some, count}

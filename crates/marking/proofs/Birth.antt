@@ -6,7 +6,8 @@ use Prim.Native.Nat.{ℕ, _+_, _≤_, _<_}
 use native.Mathlib.Omega.{arith}
 use lib.Dec.{T, ltb}
 use Rattle.marking.specs.Updates.{update, update2}
-use Rattle.marking.proofs.Updates.{update-same, update-other, added-old, added-only, added-new, test, of-true, of-false, update2-map}
+use Rattle.model.proofs.Tests.{of-true, of-false}
+use Rattle.marking.proofs.Updates.{update-same, update-other, added-old, added-only, added-new, test, update2-map}
 use Rattle.marking.proofs.Graph.{setSlot, birth}
 use Rattle.marking.proofs.Colours.{TriColour, blacken}
 use Rattle.marking.proofs.Operations.{State, allocate, perform}

@@ -7,7 +7,8 @@ use Prim.Native.Nat.{ℕ, zero, suc, _<_}
 use native.Mathlib.Omega.{arith}
 use lib.Dec.{T, eqb, ltb, eqb→eq, eqb-refl, nltb→le}
 use Rattle.marking.specs.Updates.{update, update2}
-use Rattle.marking.proofs.Updates.{update-case, update2-case, update2-split, or-case, or-left, or-right, and-both, and-left, test, clash, added-old, added-new, added-only, differ, is-true}
+use Rattle.model.proofs.Tests.{is-true}
+use Rattle.marking.proofs.Updates.{update-case, update2-case, update2-split, or-case, or-left, or-right, and-both, and-left, test, contradicts, added-old, added-new, added-only, differ}
 use Rattle.marking.proofs.Closure.{Closure, here, closure-step}
 use Rattle.marking.proofs.Graph.{Graph, Shape, setSlot, setField, emptyStack, birth}
 
@@ -94,7 +95,7 @@ module _ {G : Graph} {kept : ℕ → Bool} where
 
       fresh : (y : ℕ) → T (not (C .marked y)) → (T (C .marked y) ⊎ T (eqb y x)) → (T (hasPointers G y) ⊎ T (not (hasPointers G y))) →
           Black y
-      fresh y w (inl m) s = clash (C .marked y) m w
+      fresh y w (inl m) s = contradicts (C .marked y) m w
       fresh y w (inr e) (inl s) = inl (or-right (C .gray y) _ (and-both (eqb y x) _ e (and-both (not (C .marked y)) _ w s)))
       fresh y w (inr e) (inr s) = inr
           (λ f. rw (S .pastPointers y f (omega (arith, nltb→le 0 (G .pointers y) s))) (shade-grows G x C 0 (M .nil)))

@@ -1,12 +1,13 @@
 -- DEMAND 3, proved: after a setup and any list of calls, among them further setups, the claim of the file Claim holds.
-use mathlib.Core.Path.{_≡_}
+use mathlib.Core.Path.{_≡_, refl}
 use mathlib.Core.Bool.{Bool, true, false, not, cond}
 use mathlib.Core.Logic.{inl, inr}
 use mathlib.Core.List.{List}
 use Prim.Native.Nat.{ℕ, suc, _+_, _≤_, _<_}
 use native.Mathlib.Omega.{arith}
 use lib.Dec.{T, eqb}
-use Rattle.marking.proofs.Updates.{of-true, of-false, eqb-yes}
+use borrow.Author.Tests.{eq-eqb}
+use Rattle.model.proofs.Tests.{of-true, of-false}
 use Rattle.marking.specs.Effect.{inCycle, inMarking, isSweep, asNumber, turnedOff}
 use Rattle.marking.proofs.Effects.{inCycle-lasting, inMarking-lasting}
 use Rattle.marking.proofs.Operations
@@ -100,7 +101,7 @@ module _ {H : WordHeap} {L : Ledger} {S : State} {Y : Layout} (R : Agrees H L S 
     where
       go : (x : ℕ) → Live (S .allocated) x × (Y .at x ≡ w) →
           cond (eqb (lastBorn L (L .address x)) x) (turnedOff (effect e) (H .allocated (wordOf (L .address x))) (H′ .allocated (wordOf (L .address x)))) 0 ≡ 1
-      go x l = rw (last-is R x (l .0), eqb-yes x, of-true (isSweep (effect e)) t, at-is R x (l .0), l .1, of-true (H .allocated w) a, of-false (H′ .allocated w) d)
+      go x l = rw (last-is R x (l .0), eq-eqb x x refl, of-true (isSweep (effect e)) t, at-is R x (l .0), l .1, of-true (H .allocated w) a, of-false (H′ .allocated w) d)
 
 one-true : (b : Bool) → asNumber b ≡ 1 → T b
 one-true true e = tt

@@ -5,7 +5,8 @@ use mathlib.Core.Logic.{_⊎_, inl, inr}
 use Prim.Native.Nat.{ℕ, zero, suc, _≤_, _<_}
 use native.Mathlib.Omega.{arith}
 use lib.Dec.{T, eqb, eqb→eq}
-use Rattle.marking.proofs.Updates.{test, differ, of-true, of-false, and-both, and-left, and-right}
+use Rattle.model.proofs.Tests.{of-true, of-false}
+use Rattle.marking.proofs.Updates.{test, differ, and-both, and-left, and-right}
 use Rattle.model.specs.Bounded.{countBelow}
 use Rattle.marking.specs.Effect.{asNumber}
 use Rattle.marking.specs.Count.{some, count}

@@ -9,7 +9,8 @@ use Prim.Native.Nat.{ℕ, _+_, _≤_, _<_}
 use native.Mathlib.Omega.{arith}
 use lib.Dec.{T, ltb, eqb→eq, nltb→le, ltb→lt}
 use Rattle.marking.specs.Updates.{update}
-use Rattle.marking.proofs.Updates.{cond-on, added-old, added-only, added-new, test, cond-case, of-true, of-false, update-other}
+use Rattle.model.proofs.Tests.{of-true, of-false}
+use Rattle.marking.proofs.Updates.{cond-on, added-old, added-only, added-new, test, cond-case, update-other}
 use Rattle.marking.specs.Effect.{setsUp, inCycle, lasting, asNumber}
 use Rattle.marking.proofs.Effects.{inCycle-lasting}
 use Rattle.marking.proofs.Closure.{here, next}
@@ -218,8 +219,8 @@ fate (sweepStep q) S I = goes-on tt (record {
       (cond-case (λ (b : Bool). T b → T (S .allocated x)) (q x) (S .kept x) (S .allocated x) (λ _ k. I .keptAllocated x k) (λ a. a));
 })
 
-pub counted : (c : Operation) (S : State) → T (lasting (operationEffect c)) → Invariant S → Counted S (perform c S) (λ x. freedBy x c S)
-counted c S w I = go (fate c S I)
+pub counted-by : (c : Operation) (S : State) → T (lasting (operationEffect c)) → Invariant S → Counted S (perform c S) (λ x. freedBy x c S)
+counted-by c S w I = go (fate c S I)
   where
     go : Fate c S → Counted S (perform c S) (λ x. freedBy x c S)
     go (anew e _) = absurd (rw e at w)
@@ -230,7 +231,7 @@ accounts : (x : ℕ) (cs : List Operation) (S : State) → EachOperation inCycle
 unfolding performAll AllAllowed EachOperation freedByAll
 accounts x [] S w p I l = omega arith
 accounts x (c ∷ cs) S w p I l =
-    let d = counted c S (inCycle-lasting (operationEffect c) (w .0)) I in
+    let d = counted-by c S (inCycle-lasting (operationEffect c) (w .0)) I in
     omega (arith, d .account x l, accounts x cs (perform c S) (w .1) (p .1) (perform-keeps c S (p .0) I) (omega (arith, d .grows)))
 
 -- in the sweep phase a kept record stays kept

@@ -6,7 +6,8 @@ use mathlib.Core.List.{List}
 use Prim.Native.Nat.{ℕ, suc, _≤_, _<_}
 use native.Mathlib.Omega.{arith}
 use lib.Dec.{T, ltb, eqb→eq, nltb→le, ltb→lt}
-use Rattle.marking.proofs.Updates.{update-same, test, of-true, and-both, and-left, and-right}
+use Rattle.model.proofs.Tests.{of-true}
+use Rattle.marking.proofs.Updates.{update-same, test, and-both, and-left, and-right}
 use Rattle.marking.specs.Effect.{inCycle, inMarking}
 use Rattle.marking.proofs.Effects.{inCycle-lasting}
 use Rattle.marking.proofs.Closure.{Closure, here, next, closure-in}

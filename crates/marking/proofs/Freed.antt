@@ -7,11 +7,13 @@ use mathlib.Core.List.{List, [], _∷_}
 use Prim.Native.Nat.{ℕ, zero, suc, _+_, _≤_, _<_}
 use native.Mathlib.Omega.{arith}
 use lib.Dec.{T, eqb, ltb, eqb→eq, nltb→le, ltb→lt}
-use Rattle.marking.proofs.Updates.{test, clash, of-true, of-false, differ, and-left, and-right, eqb-no, eqb-yes}
+use borrow.Author.Tests.{ne-eqb, eq-eqb}
+use Rattle.model.proofs.Tests.{of-true, of-false}
+use Rattle.marking.proofs.Updates.{test, contradicts, differ, and-left, and-right}
 use Rattle.marking.specs.Effect.{Effect, setsUp, _is_, lasting, isSweep, turnedOff, asNumber, work}
 use Rattle.marking.proofs.Effects.{sweep-lasting}
 use Rattle.marking.proofs.Operations.{State, Operation, perform, performAll, initial, AllAllowed, operationEffect, EachOperation, freedBy, freedByAll}
-use Rattle.marking.proofs.Cycle.{Counted, Fate, anew, goes-on, fate, counted}
+use Rattle.marking.proofs.Cycle.{Counted, Fate, anew, goes-on, fate, counted-by}
 use Rattle.marking.proofs.Work.{works}
 use Rattle.marking.specs.WordHeap.{WordHeap, heapEndCycle}
 use Rattle.model.specs.Memory.{wordOf}
@@ -43,8 +45,8 @@ lastOf-is at (suc n) x h k f = go (test (eqb x (suc n))) (λ l. lastOf-is at n x
   where
     go : (T (eqb x (suc n)) ⊎ T (not (eqb x (suc n)))) → (x ≤ n → lastOf at n (at x) ≡ x) →
         cond (eqb (at (suc n)) (at x)) (suc n) (lastOf at n (at x)) ≡ x
-    go (inl e) ih = rw (eqb→eq x (suc n) e, eqb-yes (at (suc n)))
-    go (inr e) ih = let l : x ≤ n = omega (arith, differ x (suc n) e) in rw (eqb-no (at (suc n)) (at x) (f (suc n) (omega arith) (omega arith))) (ih l)
+    go (inl e) ih = rw (eqb→eq x (suc n) e, eq-eqb (at (suc n)) (at (suc n)) refl)
+    go (inr e) ih = let l : x ≤ n = omega (arith, differ x (suc n) e) in rw (ne-eqb (at (suc n)) (at x) (f (suc n) (omega arith) (omega arith))) (ih l)
 
 module _ {H : WordHeap} {L : Ledger} {S : State} {Y : Layout} (R : Agrees H L S Y) where
   addresses-differ : (x y : ℕ) → 0 < x → x < S .graph .born → 0 < y → y < S .graph .born → Y .at y ≢ Y .at x → L .address y ≢ L .address x
@@ -67,8 +69,8 @@ module _ {H : WordHeap} {L : Ledger} {S : State} {Y : Layout} (R : Agrees H L S 
       go : (T (S .allocated x) ⊎ T (not (S .allocated x))) → (T (isAllocated L H x) ⊎ T (not (isAllocated L H x))) →
           isAllocated L H x ≡ S .allocated x
       go (inl a) m = let l : Live (S .allocated) x = (h, a) in
-          rw (at-is R x l, of-true (H .allocated (Y .at x)) (R .represents .placed .on x l), last-is x l, eqb-yes x, of-true (S .allocated x) a)
-      go (inr a) (inl m) = clash (S .allocated x)
+          rw (at-is R x l, of-true (H .allocated (Y .at x)) (R .represents .placed .on x l), last-is x l, eq-eqb x x refl, of-true (S .allocated x) a)
+      go (inr a) (inl m) = contradicts (S .allocated x)
           (find m (R .represents .placed .only (Y .at x) (rw (at-born R x h k) at (and-left (H .allocated (wordOf (L .address x))) _ m)))) a
       go (inr a) (inr m) = rw (of-false (isAllocated L H x) m, of-false (S .allocated x) a)
 
@@ -107,7 +109,7 @@ end-frees {H} x L (endCycle A p h) = freedIn-is x L H Event.endCycle (heapEndCyc
 
 unborn-freedIn : (x : ℕ) (L : Ledger) (H : WordHeap) (e : Event) (H′ : WordHeap) → L .count < x → freedIn x L H e H′ ≡ 0
 unfolding freedIn
-unborn-freedIn x L H e H′ h = rw (eqb-no (lastBorn L (L .address x)) x (omega (arith, lastOf-le (L .address) (L .count) (L .address x))))
+unborn-freedIn x L H e H′ h = rw (ne-eqb (lastBorn L (L .address x)) x (omega (arith, lastOf-le (L .address) (L .count) (L .address x))))
 
 -- since the last setup a record was freed n times: once or not at all, as it is allocated or not; none before it is born
 abbrev pub Tally : ℕ → ℕ → State → Type 0
@@ -121,7 +123,7 @@ module _ {H : WordHeap} {L : Ledger} {S : State} {Y : Layout} (R : Agrees H L S 
   lasting-too o = rw ((abstract-step R s) .effect) o
 
   pub counts : T (lasting (effect e)) → Counted S (perform c S) (λ x. freedBy x c S)
-  counts o = counted c S (lasting-too o) (R .invariant)
+  counts o = counted-by c S (lasting-too o) (R .invariant)
 
   pub step-frees : (x : ℕ) → 0 < x → x < S .graph .born → T (lasting (effect e)) → freedIn x L H e H′ ≡ freedBy x c S
   step-frees x h k o = rw ((abstract-step R s) .effect, ← (isAllocated-is R x h k), ← (isAllocated-is (after R s) x h (omega (arith, counts o .grows))))

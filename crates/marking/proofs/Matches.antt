@@ -7,7 +7,8 @@ use Prim.Native.Nat.{ℕ, _+_, _≤_, _<_}
 use native.Mathlib.Omega.{arith}
 use lib.Dec.{T, eqb, ltb, eqb→eq, nltb→le, ltb→lt}
 use borrow.Author.Tests.{le-ltb}
-use Rattle.marking.proofs.Updates.{test, of-true, of-false, differ}
+use Rattle.model.proofs.Tests.{of-true, of-false}
+use Rattle.marking.proofs.Updates.{test, differ}
 use Rattle.marking.proofs.Closure.{here, next, closure-in}
 use Rattle.marking.proofs.Graph.{Root, globals, inSlot, Reach}
 use Rattle.marking.proofs.Operations.{State}

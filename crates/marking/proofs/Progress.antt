@@ -10,7 +10,8 @@ use native.Mathlib.Omega.{arith}
 use lib.ListN.{length}
 use lib.Dec.{T, eqb, eqb→eq}
 use Rattle.marking.specs.Updates.{update}
-use Rattle.marking.proofs.Updates.{update-same, update-other, update-case, test, differ, of-true, and-both, and-left}
+use Rattle.model.proofs.Tests.{of-true}
+use Rattle.marking.proofs.Updates.{update-same, update-other, update-case, test, differ, and-both, and-left}
 use Rattle.marking.specs.Effect.{asNumber}
 use Rattle.model.specs.Memory.{slotCount}
 use Rattle.marking.proofs.Graph.{Graph}
@@ -34,7 +35,7 @@ left n S = countBelow n (S .colours .grayStack) + asNumber (S .colours .gray 0) 
 pub left-bound : (n : ℕ) (S : State) → left n S ≤ n + 1 + count (S .allocated) (S .graph .born)
 left-bound n S = omega (
   arith,
-  Bounded.count-le n (S .colours .grayStack),
+  Bounded.count-bound n (S .colours .grayStack),
   one (S .colours .gray 0),
   count-le (λ x. S .allocated x && not (black (S .colours) x)) (S .allocated) (S .graph .born) (λ x _ _ t. and-left (S .allocated x) _ t),
 )

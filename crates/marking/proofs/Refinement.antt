@@ -7,7 +7,8 @@ use Prim.Native.Nat.{ℕ, suc, _+_, _≤_, _<_}
 use native.Mathlib.Omega.{arith}
 use lib.Dec.{T, eqb, ltb, eqb→eq}
 use Rattle.marking.specs.Updates.{update}
-use Rattle.marking.proofs.Updates.{update-other, update-is, added-only, test, of-true, differ, is-true}
+use Rattle.model.proofs.Tests.{of-true, is-true}
+use Rattle.marking.proofs.Updates.{update-other, update-is, added-only, test, differ}
 use Rattle.model.specs.Memory.{slotCount, globalCount, addressOf}
 use Rattle.marking.proofs.Graph.{setSlot, setField, emptyStack, birth}
 use Rattle.marking.proofs.Operations

@@ -6,8 +6,10 @@ use mathlib.Core.Logic.{_⊎_, inl, inr, _≢_}
 use Prim.Native.Nat.{ℕ, zero, suc, _+_, _≤_, _<_}
 use native.Mathlib.Omega.{arith}
 use lib.Dec.{T, eqb, ltb, eqb→eq}
+use borrow.Author.Tests.{ne-eqb, eq-eqb}
 use Rattle.marking.specs.Updates.{update, update2}
-use Rattle.marking.proofs.Updates.{test, of-true, of-false, differ, update-is, update2-is, update2-map, cond-map, eqb-no, eqb-yes}
+use Rattle.model.proofs.Tests.{of-true, of-false}
+use Rattle.marking.proofs.Updates.{test, differ, update-is, update2-is, update2-map, cond-map}
 use Rattle.marking.proofs.Graph.{Graph, setSlot, setField, emptyStack}
 use Rattle.marking.proofs.Colours.{Colours, Marked, shade, shadeAll, shadeAll-grows}
 use Rattle.marking.proofs.Operations.{State}
@@ -65,7 +67,7 @@ address-nil Y = refl
 
 pub address-live : (Y : Layout) (x : ℕ) → 0 < x → address Y x ≡ addressOf (Y .at x)
 unfolding address
-address-live Y x p = rw (eqb-no x 0 (omega arith))
+address-live Y x p = rw (ne-eqb x 0 (omega arith))
 
 pub word-address : (Y : Layout) (x : ℕ) → 0 < x → wordOf (address Y x) ≡ Y .at x
 word-address Y x p = rw (address-live Y x p) (omega arith)
@@ -79,27 +81,27 @@ module _ {allocatedBit allocated : ℕ → Bool} {E : Elements} {Y : Layout} (G 
       no-share d (inr h) = omega (arith, P .fits y k)
 
       go : (T (eqb x y) ⊎ T (not (eqb x y))) → eqb (Y .at x) (Y .at y) ≡ eqb x y
-      go (inl e) = rw (eqb→eq x y e, eqb-yes (Y .at y), eqb-yes y)
-      go (inr e) = rw (eqb-no x y (differ x y e), eqb-no (Y .at x) (Y .at y) (no-share (differ x y e) (P .apart x y l k (differ x y e))))
+      go (inl e) = rw (eqb→eq x y e, eq-eqb (Y .at y) (Y .at y) refl, eq-eqb y y refl)
+      go (inr e) = rw (ne-eqb x y (differ x y e), ne-eqb (Y .at x) (Y .at y) (no-share (differ x y e) (P .apart x y l k (differ x y e))))
 
   pub shade-colours : {B : ColourBits} {C : Colours} (x : ℕ) → ((x ≡ 0) ⊎ Live allocated x) → Marked C 0 → SameColours Y allocated B C →
       SameColours Y allocated (shadeBits (E .scan) (named E) (address Y x) B) (shade G x C)
   unfolding shadeBits shade
   shade-colours {B} {C} x (inl e) z Q = record {
-    marked = λ y l. simp (e, address-nil, eqb-no y 0 (omega arith), or-false, Q .marked y l);
-    gray = λ y l. simp (e, address-nil, eqb-no y 0 (omega arith), or-false, Q .gray y l);
+    marked = λ y l. simp (e, address-nil, ne-eqb y 0 (omega arith), or-false, Q .marked y l);
+    gray = λ y l. simp (e, address-nil, ne-eqb y 0 (omega arith), or-false, Q .gray y l);
     grayGlobals = simp (e, of-true (C .marked 0) z, or-false, Q .grayGlobals);
     grayStack = Q .grayStack;
   }
   shade-colours {B} {C} x (inr lx) z Q = record {
     marked = λ y l. simp (some, word-address Y x (lx .0), same-place y x l lx, Q .marked y l);
     gray = λ y l. simp (some, word-address Y x (lx .0), same-place y x l lx, Q .marked y l, Q .gray y l, P .scan y l);
-    grayGlobals = simp (eqb-no 0 x (omega arith), or-false, Q .grayGlobals);
+    grayGlobals = simp (ne-eqb 0 x (omega arith), or-false, Q .grayGlobals);
     grayStack = Q .grayStack;
   }
     where
       some : eqb (address Y x) 0 ≡ false
-      some = eqb-no (address Y x) 0 (omega (arith, address-live Y x (lx .0)))
+      some = ne-eqb (address Y x) 0 (omega (arith, address-live Y x (lx .0)))
 
   -- many shadings: a f is the address of g f
   pub shadeAll-colours : {B : ColourBits} {C : Colours} (a g : ℕ → ℕ) (n : ℕ) → ((f : ℕ) → f < n → a f ≡ address Y (g f)) →
@@ -121,12 +123,12 @@ module _ {allocatedBit allocated : ℕ → Bool} {E : Elements} {Y : Layout} (G 
       no-share (inr h) = omega arith
 
       shift : (a : ℕ) → (T (eqb f g) ⊎ T (not (eqb f g))) → eqb (a + f) (a + g) ≡ eqb f g
-      shift a (inl e) = rw (eqb→eq f g e, eqb-yes (a + g), eqb-yes g)
-      shift a (inr e) = rw (eqb-no f g (differ f g e), eqb-no (a + f) (a + g) (omega (arith, differ f g e)))
+      shift a (inl e) = rw (eqb→eq f g e, eq-eqb (a + g) (a + g) refl, eq-eqb g g refl)
+      shift a (inr e) = rw (ne-eqb f g (differ f g e), ne-eqb (a + f) (a + g) (omega (arith, differ f g e)))
 
       go : (T (eqb x y) ⊎ T (not (eqb x y))) → eqb (Y .at x + f) (Y .at y + g) ≡ (eqb x y && eqb f g)
-      go (inl e) = rw (eqb→eq x y e, eqb-yes y) (shift (Y .at y) (test (eqb f g)))
-      go (inr e) = rw (eqb-no x y (differ x y e), eqb-no (Y .at x + f) (Y .at y + g) (no-share (P .apart x y l k (differ x y e))))
+      go (inl e) = rw (eqb→eq x y e, eq-eqb y y refl) (shift (Y .at y) (test (eqb f g)))
+      go (inr e) = rw (ne-eqb x y (differ x y e), ne-eqb (Y .at x + f) (Y .at y + g) (no-share (P .apart x y l k (differ x y e))))
 
   module _ {arena : ℕ → ℕ} {slots : ℕ → ℕ → ℕ} {globals : ℕ → ℕ} {numbers : ℕ → ℕ → ℕ} (W : SameWords arena slots globals Y numbers G allocated) where
     pub assign-words : (t i v : ℕ) → SameWords arena (update2 slots t i (address Y v)) globals Y numbers (setSlot t i v G) allocated
@@ -143,7 +145,7 @@ module _ {allocatedBit allocated : ℕ → Bool} {E : Elements} {Y : Layout} (G 
     unfolding setField
     store-words x f v l h = record {
       slot = W .slot;
-      global = λ g. rw (update2-is (G .field) x f v 0 g, eqb-no 0 x (omega arith)) (W .global g);
+      global = λ g. rw (update2-is (G .field) x f v 0 g, ne-eqb 0 x (omega arith)) (W .global g);
       pointer = λ y g k u. rw (
         update-is arena (Y .at x + f) (address Y v) (Y .at y + g),
         update2-is (G .field) x f v y g,
@@ -161,7 +163,7 @@ module _ {allocatedBit allocated : ℕ → Bool} {E : Elements} {Y : Layout} (G 
         other y g u = go (test (eqb y x))
           where
             go : (T (eqb y x) ⊎ T (not (eqb y x))) → (eqb y x && eqb g f) ≡ false
-            go (inl e) = let u′ : G .pointers x ≤ g = rw (eqb→eq y x e) at u in rw (eqb-no g f (omega arith)) (and-false (eqb y x))
+            go (inl e) = let u′ : G .pointers x ≤ g = rw (eqb→eq y x e) at u in rw (ne-eqb g f (omega arith)) (and-false (eqb y x))
             go (inr e) = rw (of-false (eqb y x) e)
 
     pub storeGlobal-words : (g v : ℕ) → SameWords arena slots (update globals g (address Y v)) Y numbers (setField 0 g v G) allocated
@@ -170,7 +172,7 @@ module _ {allocatedBit allocated : ℕ → Bool} {E : Elements} {Y : Layout} (G 
       slot = W .slot;
       global = λ k. rw (update-is globals g (address Y v) k, update2-is (G .field) 0 g v 0 k, W .global k)
           (cond-map (address Y) (eqb k g) v (G .field 0 k));
-      pointer = λ y f l h. rw (update2-is (G .field) 0 g v y f, eqb-no y 0 (omega arith)) (W .pointer y f l h);
+      pointer = λ y f l h. rw (update2-is (G .field) 0 g v y f, ne-eqb y 0 (omega arith)) (W .pointer y f l h);
       number = W .number;
     }
 
@@ -190,7 +192,7 @@ module _ {allocatedBit allocated : ℕ → Bool} {E : Elements} {Y : Layout} (G 
         other y g u = go (test (eqb y x))
           where
             go : (T (eqb y x) ⊎ T (not (eqb y x))) → (eqb y x && eqb g f) ≡ false
-            go (inl e) = let u′ : g < G .pointers x = rw (eqb→eq y x e) at u in rw (eqb-no g f (omega arith)) (and-false (eqb y x))
+            go (inl e) = let u′ : g < G .pointers x = rw (eqb→eq y x e) at u in rw (ne-eqb g f (omega arith)) (and-false (eqb y x))
             go (inr e) = rw (of-false (eqb y x) e)
 
     pub emptyStack-words : (t : ℕ) (b : Bool) → SameWords arena (update slots t (λ i. 0)) globals Y numbers (emptyStack t b G) allocated

@@ -8,7 +8,8 @@ use Prim.Native.Nat.{ℕ, suc, _≤_, _<_}
 use native.Mathlib.Omega.{arith}
 use lib.Dec.{T, eqb, ltb, eqb→eq, nltb→le, ltb→lt}
 use Rattle.marking.specs.Updates.{update}
-use Rattle.marking.proofs.Updates.{cond-on, added-old, added-only, added-new, test, clash, cond-case, of-false, differ}
+use Rattle.model.proofs.Tests.{of-false}
+use Rattle.marking.proofs.Updates.{cond-on, added-old, added-only, added-new, test, contradicts, cond-case, differ}
 use Rattle.marking.proofs.Closure.{Closure, here, next, closure-in}
 use Rattle.model.specs.Memory.{slotCount}
 use Rattle.marking.proofs.Graph.{Graph, Shape, Closed, Root, globals, inSlot, Reach, setSlot, setField, emptyStack, birth, shape-setSlot, shape-setField, shape-emptyStack, shape-birth, closed-setSlot, closed-setField, closed-emptyStack, closed-birth, emptyStack-nil}
@@ -69,7 +70,7 @@ module _ {G : Graph} {kept : ℕ → Bool} {C : Colours} (S : Shape G) (Q : Clos
   }
     where
       along : (x f : ℕ) → Marked C x → (T (C .gray x) ⊎ ((f : ℕ) → Marked C (G .field x f))) → Marked C (G .field x f)
-      along x f m (inl y) = clash (C .gray x) y (g x m)
+      along x f m (inl y) = contradicts (C .gray x) y (g x m)
       along x f m (inr h) = h f
 
 birth-opened : (G : Graph) (p t : ℕ) → T (G .opened t) → T ((birth p G) .opened t)

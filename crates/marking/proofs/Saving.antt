@@ -6,7 +6,8 @@ use mathlib.Core.Logic.{_⊎_, inl, inr}
 use Prim.Native.Nat.{ℕ, _<_}
 use lib.Dec.{T}
 use Rattle.marking.specs.Updates.{update, update2}
-use Rattle.marking.proofs.Updates.{update2-case, update2-split, added-old, added-new, added-only, of-true}
+use Rattle.model.proofs.Tests.{of-true}
+use Rattle.marking.proofs.Updates.{update2-case, update2-split, added-old, added-new, added-only}
 use Rattle.marking.proofs.Closure.{Closure, here, closure-step}
 use Rattle.marking.proofs.Graph.{Shape, setField}
 use Rattle.marking.proofs.Colours.{Colours, Marked, shade, shadeAll, shade-grows, shade-marks, shadeAll-grows, shade-all, shadeAll-all}

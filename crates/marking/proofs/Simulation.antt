@@ -5,8 +5,10 @@ use mathlib.Core.Logic.{_⊎_, inl, inr}
 use Prim.Native.Nat.{ℕ, _+_, _≤_, _<_}
 use native.Mathlib.Omega.{arith}
 use lib.Dec.{T, eqb, eqb→eq}
+use borrow.Author.Tests.{ne-eqb}
 use Rattle.marking.specs.Updates.{update, update2}
-use Rattle.marking.proofs.Updates.{update-same, update-other, test, cond-case, of-true, of-false, differ, is-true, update-is, eqb-no}
+use Rattle.model.proofs.Tests.{of-true, of-false, is-true}
+use Rattle.marking.proofs.Updates.{update-same, update-other, test, cond-case, differ, update-is}
 use Rattle.model.specs.Memory.{slotCount}
 use Rattle.marking.proofs.Graph.{setSlot, setField, emptyStack}
 use Rattle.marking.proofs.Colours.{Marked, shade, shadeAll, ungray, setGrayStack, shade-grows}
@@ -121,8 +123,8 @@ module _ {H : WordHeap} {Y : Layout} {numbers : ℕ → ℕ → ℕ} {S : State}
     placed = Z .placed;
     words = Z .words;
     colours = λ m. record {
-      marked = λ x l. rw (eqb-no x 0 (omega arith)) (A .offUnmarked (rw (Z .phase) p) (Y .at x));
-      gray = λ x l. rw (eqb-no x 0 (omega arith)) (go (Y .at x) (test (H .bits .gray (Y .at x))));
+      marked = λ x l. rw (ne-eqb x 0 (omega arith)) (A .offUnmarked (rw (Z .phase) p) (Y .at x));
+      gray = λ x l. rw (ne-eqb x 0 (omega arith)) (go (Y .at x) (test (H .bits .gray (Y .at x))));
       grayGlobals = refl;
       grayStack = Z .opened;
     };

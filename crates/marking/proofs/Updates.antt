@@ -4,6 +4,7 @@ use mathlib.Core.Bool.{Bool, true, false, not, cond, _&&_, _||_}
 use mathlib.Core.Logic.{_⊎_, inl, inr, _≢_}
 use Prim.Native.Nat.{ℕ}
 use lib.Dec.{T, eqb, eqb→eq, eqb-refl, T-not}
+use Rattle.model.proofs.Tests.{is-true}
 use Rattle.marking.specs.Updates.{update, update2}
 
 pub cond-case : {X : Type 0} (P : X → Type 0) (b : Bool) (v w : X) → (T b → P v) → P w → P (cond b v w)
@@ -62,9 +63,9 @@ pub test : (b : Bool) → T b ⊎ T (not b)
 test true = inl tt
 test false = inr tt
 
-pub clash : {P : Type 0} (b : Bool) → T b → T (not b) → P
-clash true s t = absurd t
-clash false s t = absurd s
+pub contradicts : {P : Type 0} (b : Bool) → T b → T (not b) → P
+contradicts true s t = absurd t
+contradicts false s t = absurd s
 
 pub cond-on : {X : Type 0} (P : X → Type 0) (b : Bool) (v w : X) → T b → P v → P (cond b v w)
 cond-on P true v w t p = p
@@ -82,17 +83,6 @@ added-only h i x = update-case (λ (b : Bool). T b → (x ≡ i) ⊎ T (h x)) h 
 
 pub differ : (a b : ℕ) → T (not (eqb a b)) → a ≢ b
 differ a b h e = T-not (eqb a b) h (rw e (eqb-refl b))
-
-pub is-true : (b : Bool) → b ≡ true → T b
-is-true b e = rw e tt
-
-pub of-true : (b : Bool) → T b → b ≡ true
-of-true true t = refl
-of-true false t = absurd t
-
-pub of-false : (b : Bool) → T (not b) → b ≡ false
-of-false true t = absurd t
-of-false false t = refl
 
 pub update-other : {X : Type 0} (h : ℕ → X) (i : ℕ) (v : X) (x : ℕ) → x ≢ i → update h i v x ≡ h x
 update-other h i v x d = update-case (λ w. w ≡ h x) h i v x (λ p. absurd (d p)) refl
@@ -117,13 +107,3 @@ cond-map F false v w = refl
 -- a table's change, seen through a function
 pub update2-map : (F : ℕ → ℕ) (k h : ℕ → ℕ → ℕ) (i j v x y : ℕ) → k x y ≡ F (h x y) → update2 k i j (F v) x y ≡ F (update2 h i j v x y)
 update2-map F k h i j v x y e = rw (update2-is k i j (F v) x y, update2-is h i j v x y, e) (cond-map F (eqb x i && eqb y j) v (h x y))
-
-pub eqb-no : (a b : ℕ) → a ≢ b → eqb a b ≡ false
-eqb-no a b d = go (test (eqb a b))
-  where
-    go : (T (eqb a b) ⊎ T (not (eqb a b))) → eqb a b ≡ false
-    go (inl t) = absurd (d (eqb→eq a b t))
-    go (inr t) = of-false (eqb a b) t
-
-pub eqb-yes : (a : ℕ) → eqb a a ≡ true
-eqb-yes a = of-true (eqb a a) (eqb-refl a)

@@ -17,7 +17,7 @@ use Rattle.marking.proofs.Colours.{Colours, Marked, hasPointers, shade,
 use Rattle.marking.proofs.Operations.{State, Operation, idle, setup, assign, store, resetStack, allocate, start, finish, endCycle, scanStack, scanGlobals, markStep, sweepStep, Allowed, perform, markAt, performAll, AllAllowed, operationEffect, EachOperation}
 use Rattle.marking.specs.WordHeap.{marking}
 use Rattle.marking.proofs.Safety.{Invariant, perform-keeps, runs-keep}
-use Rattle.marking.proofs.Cycle.{counted}
+use Rattle.marking.proofs.Cycle.{counted-by}
 use Rattle.marking.specs.Count.{some, count}
 use Rattle.marking.proofs.Count.{count-le, count-lt, below-more}
 
@@ -69,14 +69,14 @@ marked-black x S m = shadeAll-black (S .graph) (S .graph .field x) (S .graph .po
     (ungrayed x (S .colours) m)
 
 -- a gray record turns black
-abbrev pub Takes : Operation → State → Type 0
-Takes c S = (x : ℕ) × (0 < x) × T (S .colours .gray x) × T (black ((perform c S) .colours) x)
+abbrev pub Blackens : Operation → State → Type 0
+Blackens c S = (x : ℕ) × (0 < x) × T (S .colours .gray x) × T (black ((perform c S) .colours) x)
 
 -- what a call between a start and its finish does to the colours
 pub record Darkens (c : Operation) (S : State) : Type 0 where
   pub phase : T (marking ((perform c S) .phase))
   pub black : (y : ℕ) → T (black (S .colours) y) → T (black ((perform c S) .colours) y)
-  pub takes : (work (operationEffect c) ≡ 0) ⊎ ((work (operationEffect c) ≡ 1) × Takes c S)
+  pub takes : (work (operationEffect c) ≡ 0) ⊎ ((work (operationEffect c) ≡ 1) × Blackens c S)
 
 pub darkens : (c : Operation) (S : State) → T (inMarking (operationEffect c)) → Allowed c S → Invariant S → T (marking (S .phase)) → Darkens c S
 unfolding perform setGrayStack
@@ -117,9 +117,9 @@ darker : (c : Operation) (S : State) → T (inMarking (operationEffect c)) → A
 darker c S w p I m = go (darkens c S w p I m) (darkens c S w p I m .takes)
   where
     grows : S .graph .born ≤ (perform c S) .graph .born
-    grows = counted c S (inMarking-lasting (operationEffect c) w) I .grows
+    grows = counted-by c S (inMarking-lasting (operationEffect c) w) I .grows
 
-    go : Darkens c S → ((work (operationEffect c) ≡ 0) ⊎ ((work (operationEffect c) ≡ 1) × Takes c S)) →
+    go : Darkens c S → ((work (operationEffect c) ≡ 0) ⊎ ((work (operationEffect c) ≡ 1) × Blackens c S)) →
         blacks S + work (operationEffect c) ≤ blacks (perform c S)
     go D (inl e) = omega (
       arith,

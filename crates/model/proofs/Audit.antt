@@ -10,7 +10,7 @@ use lib.ListN.{length, List·getD-eq-default}
 use lib.Dec.{T, eqb, ltb}
 use borrow.Author.Tests.{ltb-true, ltb-false, eqb-true, eqb-false}
 use Rattle.model.specs.Bounded.{someBelow}
-use Rattle.model.specs.Memory.{Heap, goodBuffers, words, state, globalsState, phase, root, word, slot, wordOf, addressOf, stackCount, slotCount, firstState, rootWords, pageWords, maxPages, entryNumbers, bitmapWords, unsweptFlag}
+use Rattle.model.specs.Memory.{Heap, goodBuffers, words, state, globalsState, phase, root, word, slot, wordOf, addressOf, stackCount, slotCount, firstState, rootWords, pageWords, maxPages, entryNumbers, bitmapWords, unsweptFlag, off, mark, sweep, closed, openState, grayState}
 use Rattle.model.specs.Classes.{classPages, kinds, fewestLarge, mostLarge}
 use Rattle.model.specs.Bitmaps.{Part, allocated, marked, gray, pointer, is}
 use Rattle.model.specs.Spans.{owner, pageCount, kindEntry, kindAt, classAt, spanOf, elementOf, elementNumber, elements, elementStart, kept, recordOf}
@@ -46,7 +46,7 @@ FirstFacts h s =
     let t = h .table in
     (((T (goodKind t s) × (s + pageCount t s ≤ h .pages))
     × ((k : ℕ) → k < pageCount t s - 1 → ((owner t (s + 1 + k) ≡ s + 1) × (pageCount t (s + 1 + k) ≡ 0)) × (kindEntry t (s + 1 + k) ≡ 0)))
-    × (unsweptFlag ≤ kindEntry t s → phase h ≡ 2)) × T (someBelow (elements t s) (λ k. is allocated h (elementStart t s k)))
+    × (unsweptFlag ≤ kindEntry t s → phase h ≡ sweep)) × T (someBelow (elements t s) (λ k. is allocated h (elementStart t s k)))
 
 first-iff : (h : Heap) (s : ℕ) → T (goodFirst h s) ↔ FirstFacts h s
 unfolding goodFirst
@@ -71,8 +71,8 @@ WordFacts h w =
     let t = h .table in
     let s = spanOf t w in
     ((((T (is allocated h w) → ((owner t (w / pageWords) ≢ 0) × (elementNumber t s w < elements t s)) × (elementOf t w ≡ w))
-    × (T (is marked h w) → (T (is allocated h w) × (phase h ≢ 0)) × (phase h ≡ 2 → unsweptFlag ≤ kindEntry t s)))
-    × (T (is gray h w) → (T (is marked h w) × (kindAt t s % 2 ≡ 0)) × (phase h ≡ 1)))
+    × (T (is marked h w) → (T (is allocated h w) × (phase h ≢ off)) × (phase h ≡ sweep → unsweptFlag ≤ kindEntry t s)))
+    × (T (is gray h w) → (T (is marked h w) × (kindAt t s % 2 ≡ 0)) × (phase h ≡ mark)))
     × ((T (is allocated h w) × (kindAt t s % 2 ≡ 0) → T (is pointer h w))
     × (T (is pointer h w) → ((((owner t (w / pageWords) ≢ 0) × (elementNumber t s w < elements t s)) × (kindAt t s % 2 ≡ 0)) × T (is allocated h (elementOf t w))) × (elementOf t w ≢ w → T (is pointer h (w - 1))))))
     × (T (is pointer h w) × T (kept h (elementOf t w)) → T (isReference h (word h w)))
@@ -83,11 +83,11 @@ word-iff h w = simp (tests, else-iff) Iff·rfl
 
 -- one stack, the states, one reference
 
-stack-iff : (h : Heap) (s : ℕ) → T (goodStack h s) ↔ ((state h s ≤ 2) × (state h s ≡ 2 → phase h ≡ 1)) × (state h s ≡ 0 → (i : ℕ) → i < slotCount → slot h s i ≡ 0)
+stack-iff : (h : Heap) (s : ℕ) → T (goodStack h s) ↔ ((state h s ≤ grayState) × (state h s ≡ grayState → phase h ≡ mark)) × (state h s ≡ closed → (i : ℕ) → i < slotCount → slot h s i ≡ 0)
 unfolding goodStack
 stack-iff h s = simp tests Iff·rfl
 
-states-iff : (h : Heap) → T (goodStates h) ↔ (((phase h ≤ 2) × (1 ≤ globalsState h)) × (globalsState h ≤ 2)) × (globalsState h ≡ 2 → phase h ≡ 1)
+states-iff : (h : Heap) → T (goodStates h) ↔ (((phase h ≤ sweep) × (openState ≤ globalsState h)) × (globalsState h ≤ grayState)) × (globalsState h ≡ grayState → phase h ≡ mark)
 unfolding goodStates
 states-iff h = simp tests Iff·rfl
 
@@ -173,7 +173,7 @@ audit-facts h Z ok = record {
     grays = λ w a. let f = at gray w a .0 .0 .1 a in (f .0 .0, eqb-iff _ 0 .1 (f .0 .1));
     pointers = λ w a. let f = at pointer w a .0 .1 .1 a in (record { used = omega (arith, f .0 .0 .0 .0); number = f .0 .0 .0 .1 }, eqb-iff _ 0 .1 (f .0 .0 .1), f .0 .1);
     head = λ w a s. at allocated w a .0 .1 .0 (a, eqb-iff _ 0 .0 s);
-    run = λ w a. at pointer w a .0 .1 .1 a .1;
+    unbroken = λ w a. at pointer w a .0 .1 .1 a .1;
   };
   phases = record {
     none = λ e w. off (is marked h w) (λ a. at marked w a .0 .0 .0 .1 a .0 .1 e);
@@ -201,7 +201,7 @@ audit-facts h Z ok = record {
     pages : (g : ℕ) → PageFacts h g
     pages = every-page h Z (x .0 .0 .1)
 
-    g : (((phase h ≤ 2) × (1 ≤ globalsState h)) × (globalsState h ≤ 2)) × (globalsState h ≡ 2 → phase h ≡ 1)
+    g : (((phase h ≤ sweep) × (openState ≤ globalsState h)) × (globalsState h ≤ grayState)) × (globalsState h ≡ grayState → phase h ≡ mark)
     g = states-iff h .0 (x .0 .0 .0 .0)
 
     at : (q : Part) (w : ℕ) → T (is q h w) → WordFacts h w
@@ -253,12 +253,12 @@ facts-audit h F = audit-iff h .1 (
         let z : elementStart (h .table) s (elementNumber (h .table) s (f .0)) ≡ f .0 = rw (f .2) at (E .first) in
         some-iff (elements (h .table) s) (λ k. is allocated h (elementStart (h .table) s k)) .1 (elementNumber (h .table) s (f .0), n, rw z (f .1))
 
-    unswept : (s : ℕ) → IsSpan (h .table) s → unsweptFlag ≤ kindEntry (h .table) s → phase h ≡ 2
-    unswept s e l = go (eqb (phase h) 2) refl
+    unswept : (s : ℕ) → IsSpan (h .table) s → unsweptFlag ≤ kindEntry (h .table) s → phase h ≡ sweep
+    unswept s e l = go (eqb (phase h) sweep) refl
       where
-        go : (b : Bool) → eqb (phase h) 2 ≡ b → phase h ≡ 2
-        go true p = eqb-true (phase h) 2 p
-        go false p = absurd (omega (arith, F .phases .swept (eqb-false (phase h) 2 p) s e))
+        go : (b : Bool) → eqb (phase h) sweep ≡ b → phase h ≡ sweep
+        go true p = eqb-true (phase h) sweep p
+        go false p = absurd (omega (arith, F .phases .swept (eqb-false (phase h) sweep p) s e))
 
     first : (s : ℕ) → IsSpan (h .table) s → FirstFacts h s
     first s e =
@@ -294,15 +294,15 @@ facts-audit h F = audit-iff h .1 (
         ),
         (
           (λ a. F .bits .head w (a .0) (eqb-iff _ 0 .1 (a .1))),
-          (λ a. let f = F .bits .pointers w a in ((((omega (arith, f .0 .used), f .0 .number), eqb-iff _ 0 .0 (f .1)), f .2), F .bits .run w a)),
+          (λ a. let f = F .bits .pointers w a in ((((omega (arith, f .0 .used), f .0 .number), eqb-iff _ 0 .0 (f .1)), f .2), F .bits .unbroken w a)),
         ),
       ),
       (λ a. reference-iff h (word h w) .1 (F .references .content w (a .0) (a .1))),
     )
       where
-        inked : (w : ℕ) → T (is gray h w) → phase h ≡ 1
-        inked w a = go (eqb (phase h) 1) refl
+        inked : (w : ℕ) → T (is gray h w) → phase h ≡ mark
+        inked w a = go (eqb (phase h) mark) refl
           where
-            go : (b : Bool) → eqb (phase h) 1 ≡ b → phase h ≡ 1
-            go true e = eqb-true (phase h) 1 e
-            go false e = absurd (true≢false (sym (of-true _ a) ∙ F .phases .plain (eqb-false (phase h) 1 e) w))
+            go : (b : Bool) → eqb (phase h) mark ≡ b → phase h ≡ mark
+            go true e = eqb-true (phase h) mark e
+            go false e = absurd (true≢false (sym (of-true _ a) ∙ F .phases .plain (eqb-false (phase h) mark e) w))

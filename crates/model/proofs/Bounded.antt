@@ -143,10 +143,10 @@ pub count-step : (n : ℕ) (t : ℕ → Bool) → countBelow (n + 1) t ≡ count
 unfolding countBelow
 count-step n t = rw add-one
 
-pub count-le : (n : ℕ) (t : ℕ → Bool) → countBelow n t ≤ n
+pub count-bound : (n : ℕ) (t : ℕ → Bool) → countBelow n t ≤ n
 unfolding countBelow
-count-le zero t = omega arith
-count-le (suc n) t = go (t n) (count-le n t)
+count-bound zero t = omega arith
+count-bound (suc n) t = go (t n) (count-bound n t)
   where
     go : (b : Bool) → countBelow n t ≤ n → countBelow n t + cond b 1 0 ≤ suc n
     go true l = omega arith

@@ -8,7 +8,7 @@ use native.Mathlib.Omega.{arith}
 use lib.Dec.{T, eqb, ltb}
 use borrow.Author.Tests.{eqb-true, eqb-false, ltb-true, ltb-false}
 use Rattle.model.specs.Bounded.{allBelow, someBelow}
-use Rattle.model.specs.Memory.{Heap, goodBuffers, words, state, phase, slot, globalsState, stackCount, slotCount, globalCount, wordBytes}
+use Rattle.model.specs.Memory.{Heap, goodBuffers, words, state, phase, slot, globalsState, stackCount, slotCount, globalCount, wordBytes, mark, sweep, closed, grayState}
 use Rattle.model.specs.Answers.{_given_, _orElse_, badBuffers, damaged, sweepFirst, noRoom}
 use Rattle.model.specs.Bitmaps.{is, gray}
 use Rattle.model.specs.Spans.{elementWords, spanOf, pointerCount}
@@ -48,7 +48,7 @@ pub ruleset passes = (given-iff, orElse-iff, none-iff, and-iff, nor-iff, not-not
 -- a stack that is open
 pub record OpenStack (h : Heap) (s : ℕ) : Type 0 where
   pub below : s < stackCount
-  pub isOpen : state h s ≢ 0
+  pub isOpen : state h s ≢ closed
 
 pub open-passed : (h : Heap) (s : ℕ) → openRefusal h s ≡ 0 → OpenStack h s
 open-passed h s e = let x = simp passes at e in record { below = x .0; isOpen = x .1 }
@@ -101,7 +101,7 @@ pub record Allocates (h : Heap) (s i size p : ℕ) : Type 0 where
 
 pub room-passed : (h : Heap) (kind n : ℕ) → roomRefusal h kind n ≡ 0 → T (roomFor h kind n)
 unfolding roomRefusal
-room-passed h kind n e = go (roomFor h kind n) (eqb (phase h) 2 && someUnswept (h .pages) (h .table)) e
+room-passed h kind n e = go (roomFor h kind n) (eqb (phase h) sweep && someUnswept (h .pages) (h .table)) e
   where
     go : (a b : Bool) → _≡_ {A = ℕ} (cond a 0 (cond b sweepFirst noRoom)) 0 → T a
     go true b e = tt
@@ -114,10 +114,10 @@ allocate-passed h s i size p e = let x = simp passes at e in
     record { stack = record { below = x .0 .0 .0; isOpen = x .0 .0 .1 }; slot = x .0 .1; some = x .1 .0 .0 .0; limit = x .1 .0 .0 .1; pointers = x .1 .0 .1; room = room-passed h (kindOf size p) (pagesFor size) (x .1 .1) }
 
 -- nothing is gray
-pub record Finishes (h : Heap) : Type 0 where
-  pub phase : Rattle.model.specs.Memory.phase h ≡ 1
-  pub stacks : (s : ℕ) → s < stackCount → state h s ≢ 2
-  pub globals : globalsState h ≢ 2
+pub record NothingGray (h : Heap) : Type 0 where
+  pub phase : Rattle.model.specs.Memory.phase h ≡ mark
+  pub stacks : (s : ℕ) → s < stackCount → state h s ≢ grayState
+  pub globals : globalsState h ≢ grayState
   pub records : (w : ℕ) → is gray h w ≡ false
 
 none-gray : (h : Heap) → words h ≤ firstGray h → (w : ℕ) → is gray h w ≡ false
@@ -129,7 +129,7 @@ none-gray h l w = go (ltb w (words h)) refl (is gray h w) refl
     go false e true p = absurd (omega (arith, ltb-false w (words h) e, bit-inside (words h) gray (h .bits) w (is-true _ p)))
     go false e false p = refl
 
-pub finish-passed : (h : Heap) → finishRefusal h ≡ 0 → Finishes h
+pub finish-passed : (h : Heap) → finishRefusal h ≡ 0 → NothingGray h
 unfolding finishRefusal
 finish-passed h e = let x = simp passes at e in
     record { phase = x .0; stacks = x .1 .0 .0; globals = x .1 .0 .1; records = none-gray h (x .1 .1) }

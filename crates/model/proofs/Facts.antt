@@ -65,4 +65,4 @@ no-pointer {P} {t} {b} F C w E (suc f) l m = go (ltb f R) refl (bit P pointer b 
     go false e true x ih =
         let o = own-word F w (suc f) E m .0 in
         let z : w + suc f - 1 ≡ w + f = omega arith in
-        absurd (true≢false (sym (of-true _ (rw z at (C .run (w + suc f) (is-true _ x) (omega (arith, o))))) ∙ ih (borrow.Author.Tests.ltb-false f R e)))
+        absurd (true≢false (sym (of-true _ (rw z at (C .unbroken (w + suc f) (is-true _ x) (omega (arith, o))))) ∙ ih (borrow.Author.Tests.ltb-false f R e)))

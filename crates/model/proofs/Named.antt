@@ -26,9 +26,9 @@ kept-allocated {P} {t} {b} C w = go (unsweptAt t w)
     go false a = a
 
 -- a reference that is not nil names a kept element, and so a word of the arena
-pub named : {P : ℕ} {t b : List ℕ} → Bits P t b → (v : ℕ) → v ≢ 0 → Reference P t b v → T (bit P allocated b (recordOf t v)) × T (keptAt P t b (recordOf t v)) × (recordOf t v < pageWords * P)
-named C v d (inl e) = absurd (d e)
-named {P} {t} {b} C v d (inr f) =
+pub kept-element : {P : ℕ} {t b : List ℕ} → Bits P t b → (v : ℕ) → v ≢ 0 → Reference P t b v → T (bit P allocated b (recordOf t v)) × T (keptAt P t b (recordOf t v)) × (recordOf t v < pageWords * P)
+kept-element C v d (inl e) = absurd (d e)
+kept-element {P} {t} {b} C v d (inr f) =
     let a = kept-allocated C (recordOf t v) (f .1) in
     (a, f .1, bit-inside (pageWords * P) allocated b (recordOf t v) a)
 
@@ -37,7 +37,7 @@ abbrev pub There : ℕ → List ℕ → ℕ → Type 0
 There P t v = v ≢ 0 → recordOf t v < pageWords * P
 
 pub reference-there : {P : ℕ} {t b : List ℕ} → Bits P t b → (v : ℕ) → Reference P t b v → There P t v
-reference-there C v r d = named C v d r .2
+reference-there C v r d = kept-element C v d r .2
 
 -- the address of a kept element is a reference
 pub address-refers : (P : ℕ) (t b : List ℕ) (w : ℕ) → T (keptAt P t b w) → Reference P t b (addressOf w)

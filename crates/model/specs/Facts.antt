@@ -73,7 +73,7 @@ pub record Bits (P : ℕ) (t b : List ℕ) : Type 0 where
   pub grays : (w : ℕ) → T (bit P gray b w) → T (bit P marked b w) × T (scanAt t w)
   pub pointers : (w : ℕ) → T (bit P pointer b w) → InElement t w × T (scanAt t w) × T (bit P allocated b (elementOf t w))
   pub head : (w : ℕ) → T (bit P allocated b w) → T (scanAt t w) → T (bit P pointer b w)
-  pub run : (w : ℕ) → T (bit P pointer b w) → elementOf t w ≢ w → T (bit P pointer b (w - 1))
+  pub unbroken : (w : ℕ) → T (bit P pointer b w) → elementOf t w ≢ w → T (bit P pointer b (w - 1))
 
 -- what depends on the phase: marked "none in phase off", "unswept only in phase sweep", gray "in phase mark", marked "only in unswept spans in phase
 -- sweep"

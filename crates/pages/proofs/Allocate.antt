@@ -47,7 +47,7 @@ run-long p t n g e =
 -- page r holds the run that the allocator takes for n pages, or is p where none is long enough
 pub record Best (p : ℕ) (t : List ℕ) (n r : ℕ) : Type 0 where
   pub within : r ≤ p
-  pub run : r < p → isRun p t n r ≡ true
+  pub longEnough : r < p → isRun p t n r ≡ true
   pub shortest : r < p → (k : ℕ) → k < p → isRun p t n k ≡ true → runLength p t r ≤ runLength p t k
   pub before : r < p → (k : ℕ) → k < r → isRun p t n k ≡ true → runLength p t r < runLength p t k
   pub none : p ≤ r → (k : ℕ) → k < p → isRun p t n k ≡ false
@@ -79,13 +79,13 @@ module _ (p : ℕ) (t : List ℕ) (n : ℕ) where
 
   pub best-is : (r : ℕ) → Best p t n r → bestRun p t n ≡ r
   unfolding bestRun
-  best-is r b = first-is p (isShortest p t n) r (record { within = b .within; before = before; holds = λ l. shortest r (b .run l) (b .shortest l) })
+  best-is r b = first-is p (isShortest p t n) r (record { within = b .within; before = before; holds = λ l. shortest r (b .longEnough l) (b .shortest l) })
     where
       before : (k : ℕ) → k < r → isShortest p t n k ≡ false
       before k l = go (ltb r p) refl
         where
           go : (c : Bool) → ltb r p ≡ c → isShortest p t n k ≡ false
-          go true e = let m = ltb-true r p e in not-shortest k r m (b .run m) (b .before m k l)
+          go true e = let m = ltb-true r p e in not-shortest k r m (b .longEnough m) (b .before m k l)
           go false e = no-run k (b .none (ltb-false r p e) k (omega (arith, b .within)))
 
 -- what the best run is, where there is one: a run of at least n pages

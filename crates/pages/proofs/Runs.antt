@@ -73,7 +73,7 @@ module _ (p : ℕ) (t : List ℕ) (n : ℕ) where
           record { fresh = next; cap = omega arith; low = passed (runLength p t g) (λ k i r. omega (arith, s .low k i r)) (λ r. omega arith); found = λ i. (omega arith, starts (s .fresh l) h q, refl); before = λ i k j r. omega (arith, s .low k j r); none = λ i. absurd (omega arith) }
 
   pub ended : (g best least : ℕ) → p ≤ g → SoFar p t n g best least → best ≡ bestRun p t n
-  ended g best least h s = sym (best-is p t n best (record { within = s .cap; run = λ l. s .found l .1; shortest = shortest; before = before; none = none }))
+  ended g best least h s = sym (best-is p t n best (record { within = s .cap; longEnough = λ l. s .found l .1; shortest = shortest; before = before; none = none }))
     where
       shortest : best < p → (k : ℕ) → k < p → isRun p t n k ≡ true → runLength p t best ≤ runLength p t k
       shortest b k l r = omega (arith, s .found b .2, s .low k (omega arith) r)

@@ -12,7 +12,7 @@ use Rattle.model.proofs.Bounded.{first-props}
 use Rattle.model.proofs.Checks.{PointerField, pointer-passed, number-passed}
 use Rattle.model.specs.Facts.{Audited}
 use Rattle.model.specs.Lent.{Roots}
-use Rattle.model.proofs.Named.{named}
+use Rattle.model.proofs.Named.{kept-element}
 use Rattle.model.proofs.Facts.{pointer-word}
 use Rattle.model.proofs.Lent.{audited-tables, consistent-tables}
 use Rattle.shading.specs.Needs.{Stored}
@@ -52,7 +52,7 @@ module _ {h : Heap} (A : Audited h) (s i j f : ℕ) {n : ℕ} (e : n ≡ pointer
   pub pointer-stored : Stored (h .pages) (h .table) (h .bits) (h .roots) (word h (recordAt h s j + f)) (slot h s i)
   pointer-stored =
       let P = passed in
-      let r = named (A .bits) (slot h s j) (P .named) (A .references .root (slotAt s j) in-slots) in
+      let r = kept-element (A .bits) (slot h s j) (P .named) (A .references .root (slotAt s j) in-slots) in
       let old = pointer-word A (recordAt h s j) (r .0) (r .1) f (P .field) .1 in
       let new = A .references .root (slotAt s i) (omega (arith, P .stack .below, P .other)) in
       record {

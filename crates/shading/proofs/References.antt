@@ -5,13 +5,13 @@ use mathlib.Core.Logic.{_≢_}
 use native.Mathlib.Omega.{arith}
 use Rattle.model.specs.Memory.{wordOf, pageWords}
 use Rattle.model.specs.Facts.{Spans, Bits, Reference}
-use Rattle.model.proofs.Named.{named}
+use Rattle.model.proofs.Named.{kept-element}
 use Rattle.shading.specs.Needs.{NamesRecord, ShadableSlice}
 
 -- a reference that is not nil names a record
 pub reference-named : {p : ℕ} {t b : List ℕ} → Spans p t → Bits p t b → (v : ℕ) → Reference p t b v → v ≢ 0 → NamesRecord p t v
 reference-named F C v r d =
-    let n = named C v d r in
+    let n = kept-element C v d r in
     let s = F .whose (wordOf v / pageWords) (C .element (wordOf v) (n .0) .lies .used) in
     record { word = n .2; span = omega (arith, s .1, n .2) }
 

@@ -1,5 +1,5 @@
 pub mod Bounds
 pub mod Counts
 pub mod Pointers
-pub mod Step
+pub mod SweepStep
 pub mod Swept

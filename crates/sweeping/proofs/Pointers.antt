@@ -17,7 +17,7 @@ use Rattle.model.proofs.Bounded.{First, within, within-true, within-high, first
 use Rattle.model.proofs.Bitmaps.{Four, samePart, bit-in, part-run, run-length}
 use Rattle.model.proofs.Spans.{startIn, start-range, start-same, elements-apart, at-home, fits, whole}
 use Rattle.model.specs.Facts.{bit}
-use Rattle.bitrange.proofs.Runs.{run-append, run-cong}
+use Rattle.bitrange.proofs.Runs.{run-append, writes-cong}
 use Rattle.bitrange.proofs.Bits.{Fit, bits-ext, bits-at, bits-length, bits-fit}
 use Rattle.bitrange.proofs.Parts.{place-from, part-as-bits, part-constant}
 use Rattle.bitsearch.specs.Freed.{isFreed}
@@ -188,7 +188,7 @@ module _ (p : ℕ) (t b : List ℕ) (s : ℕ) (S : Sweepable p t b s) (fit : Fit
       let z : at + elementWords t s - at ≡ elementWords t s = omega arith in
       let u : then ≡ upTo p t b s (at + elementWords t s) =
       rw (e, C .is) (sym (run-on at (at + elementWords t s) (C .low) (omega arith) on-end
-      ∙ rw z (run-cong (putBit (pageWords * p) pointer) at (elementWords t s) (stays p t b s) (λ w. false) (upTo p t b s at) (λ w l m. freed-clear at (C .low) h freed w l m)
+      ∙ rw z (writes-cong (putBit (pageWords * p) pointer) at (elementWords t s) (stays p t b s) (λ w. false) (upTo p t b s at) (λ w l m. freed-clear at (C .low) h freed w l m)
       ∙ part-constant (pageWords * p) pointer at (elementWords t s) false (upTo p t b s at)))) in
       rw u (on-to-next (at + elementWords t s) (omega (arith, C .low)) on-end (next-bound at (C .low) h freed) on (rw u at f))
 

@@ -1,7 +1,7 @@
 use Rattle.model.proofs.Answers.{yes, no}
 -- The invariant: the span's further pages below g are so.
-use Rattle.audit_pages.specs.Pages.{Further}
-use Rattle.audit_pages.proofs.Pages.{body-more}
+use Rattle.audit_pages.specs.Pass.{Further}
+use Rattle.audit_pages.proofs.Pass.{body-more}
 use native.Mathlib.Omega.{arith}
 use mathlib.Core.Path.{_≡_}
 use Prim.Native.Nat.{ℕ, _+_, _-_, _<_}

@@ -1,4 +1,4 @@
-use Rattle.audit_pages.proofs.Pages.{class-entry, large-entry}
+use Rattle.audit_pages.proofs.Pass.{class-entry, large-entry}
 -- Class 0 has page counts of its own; the others have the class's.
 use native.Mathlib.Omega.{arith}
 use borrow.Author.Needs.{needs}

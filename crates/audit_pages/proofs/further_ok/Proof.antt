@@ -1,4 +1,4 @@
-use Rattle.audit_pages.proofs.Pages.{further-iff}
+use Rattle.audit_pages.proofs.Pass.{further-iff}
 use native.Mathlib.Omega.{arith}
 use borrow.Author.Needs.{needs}
 use Rattle.audit_pages.proofs.further_ok.Statement.{statement}

@@ -1,5 +1,5 @@
 -- The invariant: the pages below g are as they should be, and no span goes on at g.
-use Rattle.audit_pages.proofs.Pages.{Upto, none, step, step-fits, fault, whole}
+use Rattle.audit_pages.proofs.Pass.{Upto, none, step, step-fits, fault, whole}
 use native.Mathlib.Omega.{arith}
 use mathlib.Core.Path.{_≡_}
 use Prim.Native.Nat.{_-_}

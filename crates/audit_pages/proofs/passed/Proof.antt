@@ -1,5 +1,5 @@
 use native.Mathlib.Omega.{arith}
-use Rattle.audit_pages.proofs.Pages.{bad-span, good-span}
+use Rattle.audit_pages.proofs.Pass.{bad-span, good-span}
 use Rattle.model.proofs.Answers.{yes, no}
 use borrow.Author.Needs.{needs}
 use Rattle.audit_pages.proofs.passed.Statement.{statement}

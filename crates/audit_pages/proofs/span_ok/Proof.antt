@@ -1,5 +1,5 @@
 use native.Mathlib.Omega.{arith}
-use Rattle.audit_pages.proofs.Pages.{bad-entry, bad-flag, first-iff}
+use Rattle.audit_pages.proofs.Pass.{bad-entry, bad-flag, first-iff}
 use Rattle.model.proofs.Answers.{yes}
 use borrow.Author.Needs.{needs}
 use Rattle.audit_pages.proofs.span_ok.Statement.{statement}

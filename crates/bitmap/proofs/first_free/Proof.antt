@@ -5,12 +5,12 @@ use native.Mathlib.Omega.{arith}
 use denote.Ref.{now}
 use borrow.Author.Needs.{needs}
 use Rattle.bitmap.proofs.Scan.{None}
-use Rattle.bitmap.proofs.FirstFree.{Reached, reached-first, reached-next, freeStart, none-before, none-next, scan-free, found-free, none-free}
+use Rattle.bitmap.proofs.FirstFree.{StartAt, start-first, start-next, freeStart, none-before, none-next, scan-free, found-free, none-free}
 use Rattle.bitmap.proofs.first_free.Statement.{statement}
 use Rattle.bitmap.proofs.first_free.Tie as tie
 
 abbrev Inv-loop : tie.InvT-loop
-Inv-loop ws first size count starts end rest at₀ off₀ at off = Reached first size at off × None (freeStart ws first size) (at * 64)
+Inv-loop ws first size count starts end rest at₀ off₀ at off = StartAt first size at off × None (freeStart ws first size) (at * 64)
 
 abbrev μ-loop : tie.MeasureT-loop
 μ-loop ws first size count starts end rest at₀ off₀ at off = end - at
@@ -31,7 +31,7 @@ loop-holds : tie.Need-loop-holds Inv-loop μ-loop
 loop-holds c =
     let a = c .before .before .args in
     let e = c .before .before .pre in
-    (reached-first (a .first) (a .size) (e .aligned) (e .some), none-before (now (a .ws)) (a .first) (a .size))
+    (start-first (a .first) (a .size) (e .aligned) (e .some), none-before (now (a .ws)) (a .first) (a .size))
 
 mul-free : tie.Need-mul-free Inv-loop μ-loop
 mul-free c = search needs
@@ -87,7 +87,7 @@ loop-again c =
     let l = c .before .before .before .before .loop in
     let seen = scan-free ws (s .pre .starts) (l .inv .0) (omega (arith, c .before .before .shared-slice-known2 .given (l .at))) (l .inv .1) in
     let n = c .next-start in
-    (reached-next (l .inv .0) (n .result) (n .ensures .0) (n .ensures .1), none-next ws (n .result) (l .inv .0) (n .ensures .0) (n .ensures .1) seen (omega arith))
+    (start-next (l .inv .0) (n .result) (n .ensures .0) (n .ensures .1), none-next ws (n .result) (l .inv .0) (n .ensures .0) (n .ensures .1) seen (omega arith))
 
 returns-2 : tie.Need-returns-2 Inv-loop μ-loop
 returns-2 c =

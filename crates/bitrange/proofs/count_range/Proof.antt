@@ -8,7 +8,7 @@ use mir.Val.{Fits}
 use lib.Count.{ones, ones-le}
 use Rattle.model.specs.Bounded.{countBelow}
 use Rattle.model.specs.Bitmaps.{bitAt}
-use Rattle.model.proofs.Bounded.{count-none, count-le}
+use Rattle.model.proofs.Bounded.{count-none, count-bound}
 use Rattle.bitrange.proofs.Bits.{count-word}
 use Rattle.bitrange.proofs.count_range.Statement.{statement}
 use Rattle.bitrange.proofs.count_range.Tie as tie
@@ -45,7 +45,7 @@ known : (c : In) → word c < 2 ^ 64
 known c = c .shared-slice-known .given (c .before .before .before .args .first + c .before .before .loop .k) .fits
 
 below : (c : In) → c .before .before .loop .total ≤ c .before .before .loop .k * 64
-below c = rw (c .before .before .loop .inv .1) (count-le (c .before .before .loop .k * 64) _)
+below c = rw (c .before .before .loop .inv .1) (count-bound (c .before .before .loop .k * 64) _)
 
 -- the bits of a word that are on, and with those of the words before it
 ones-fit : (w : ℕ) → w < 2 ^ 64 → Fits w64 (ones w)

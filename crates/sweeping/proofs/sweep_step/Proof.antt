@@ -1,7 +1,7 @@
 -- Refused, ended, or the first unswept span swept.
 use native.Mathlib.Omega.{arith}
 use denote.Ref.{now}
-use Rattle.sweeping.proofs.Step.{sweepable, step-refused, step-ended, step-swept}
+use Rattle.sweeping.proofs.SweepStep.{sweepable, step-refused, step-ended, step-swept}
 use borrow.Author.Needs.{needs}
 use Rattle.sweeping.proofs.sweep_step.Statement.{statement}
 use Rattle.sweeping.proofs.sweep_step.Tie as tie

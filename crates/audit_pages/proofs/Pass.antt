@@ -17,7 +17,7 @@ use Rattle.model.specs.Facts.{IsSpan, GoodEntry}
 use Rattle.model.specs.Lent.{PageTable}
 use Rattle.model.proofs.Spans.{entry-fits}
 use Rattle.model.proofs.Answers.{no}
-use Rattle.audit_pages.specs.Pages.{GoodPages, Further, Body, GoodSpan, PassedPages}
+use Rattle.audit_pages.specs.Pass.{GoodPages, Further, Body, GoodSpan, PassedPages}
 
 -- the entry of a span's first page: of a class with a page count of its own, of class 0
 module _ (kind count : ℕ) (f : kind < unsweptFlag + unsweptFlag) (k : kind % unsweptFlag < kinds) where

@@ -17,7 +17,7 @@ use Rattle.marking.specs.Event
 use Rattle.marking.specs.Ledger.{Event}
 use Rattle.marking.specs.Trace.{Step}
 use Rattle.marking.specs.Trace
-use Rattle.model.specs.Memory.{Heap, withTable, addressOf, phase, stackCount, slotCount, firstGlobal, firstState, globalsStateAt, phaseAt, pageWords, unsweptFlag, sweep}
+use Rattle.model.specs.Memory.{Heap, withTable, addressOf, phase, stackCount, slotCount, firstGlobal, firstState, globalsStateAt, phaseAt, pageWords, unsweptFlag, sweep, mark}
 use Rattle.model.specs.Bitmaps.{allocated, marked, gray, pointer, is}
 use Rattle.model.specs.Spans.{owner, pageCount, kindEntry, isFree, elementWords, elementStart, spanOf, elementOf}
 use Rattle.model.specs.Cycle.{sweptTable}
@@ -26,11 +26,11 @@ use Rattle.model.proofs.Bounded.{within, within-yes, within-low, within-high, f
 use Rattle.model.specs.Facts.{IsSpan, Audited}
 use Rattle.model.proofs.Effects.{swept-at}
 use Rattle.keeps.proofs.Tables.{Chosen, like-scan, like-words}
-use Rattle.keeps.proofs.Taken.{taken, taken-a, taken-m, taken-g, taken-p, taken-word, here, clear, bare, ends}
+use Rattle.keeps.proofs.Allotted.{allotted, allotted-a, allotted-m, allotted-g, allotted-p, allotted-word, here, clear, bare, ends}
 use Rattle.keeps.proofs.Allocated.{Choice}
 use Rattle.keeps.proofs.SweptTable.{swept}
 use Rattle.keeps.proofs.Swept.{late-swept, was-late, stay-like, stay-bits}
-use Rattle.history.proofs.View.{view, phaseOf, lateAt, scansAt, wordsAt, runFrom, elementsOf, colours-eq, heap-eq, marking-is, slot-set}
+use Rattle.history.proofs.View.{view, phaseOf, lateAt, scansAt, wordsAt, runFrom, elementsIn, colours-eq, heap-eq, marking-is, slot-set}
 
 pub run-cong : (p q : ℕ → Bool) (w n : ℕ) → ((k : ℕ) → k < n → p (w + k) ≡ q (w + k)) → runFrom p w n ≡ runFrom q w n
 unfolding runFrom
@@ -55,7 +55,7 @@ module _ {h₀ : Heap} {u : List ℕ} {w n p : ℕ} (F₀ : Audited h₀) (C : C
   S = C .chosen
 
   abbrev after : Heap
-  after = taken s i w n p (withTable u h₀)
+  after = allotted s i w n p (withTable u h₀)
 
   start : elementStart u r k ≡ w
   start = C .word
@@ -64,38 +64,38 @@ module _ {h₀ : Heap} {u : List ℕ} {w n p : ℕ} (F₀ : Audited h₀) (C : C
   long = C .words
 
   a-at : (v : ℕ) → is allocated after v ≡ cond (eqb v w) true (is allocated h₀ v)
-  a-at v = rw start at (taken-a {h = h} (C .sized) (C .spans) (C .bits) S s i hs hi v)
+  a-at v = rw start at (allotted-a {h = h} (C .sized) (C .spans) (C .bits) S s i hs hi v)
 
-  m-at : (v : ℕ) → is marked after v ≡ cond (eqb (phase h₀) 1 && eqb v w) true (is marked h₀ v)
-  m-at v = rw start at (taken-m {h = h} (C .sized) (C .spans) (C .bits) S s i hs hi v)
+  m-at : (v : ℕ) → is marked after v ≡ cond (eqb (phase h₀) mark && eqb v w) true (is marked h₀ v)
+  m-at v = rw start at (allotted-m {h = h} (C .sized) (C .spans) (C .bits) S s i hs hi v)
 
   g-at : (v : ℕ) → is gray after v ≡ is gray h₀ v
-  g-at v = rw start at (taken-g {h = h} (C .sized) (C .spans) (C .bits) S s i hs hi v)
+  g-at v = rw start at (allotted-g {h = h} (C .sized) (C .spans) (C .bits) S s i hs hi v)
 
   p-at : (v : ℕ) → is pointer after v ≡ cond (within w p v) true (is pointer h₀ v)
-  p-at v = rw start at (taken-p {h = h} (C .sized) (C .spans) (C .bits) S s i hs hi v)
+  p-at v = rw start at (allotted-p {h = h} (C .sized) (C .spans) (C .bits) S s i hs hi v)
 
   word-at : (v : ℕ) → getD (after .arena) v 0 ≡ cond (within w n v) 0 (getD (h₀ .arena) v 0)
-  word-at v = rw (start, long) at (taken-word {h = h} (C .sized) (C .spans) (C .bits) S s i hs hi v)
+  word-at v = rw (start, long) at (allotted-word {h = h} (C .sized) (C .spans) (C .bits) S s i hs hi v)
 
   E : Elements
-  E = elementsOf u (is pointer after)
+  E = elementsIn u (is pointer after)
 
   rest : (x : ℕ) → firstGlobal ≤ x → getD (after .roots) x 0 ≡ getD (h₀ .roots) x 0
   rest x l = Rattle.keeps.proofs.Roots.root-other F₀ (slotCount * s + i) (addressOf w) (omega arith) x (omega arith)
 
   -- the view of the result is the theory's new heap
-  is-new : view after ≡ heapAllocate s i w (λ x. getD (after .arena) x 0) (elementsOf u (is pointer after)) (lateAt u) (view h₀)
+  is-new : view after ≡ heapAllocate s i w (λ x. getD (after .arena) x 0) (elementsIn u (is pointer after)) (lateAt u) (view h₀)
   unfolding view heapAllocate
   is-new = heap-eq refl (fun-ext (λ v. rw (a-at v, update-is (is allocated h₀) w true v))) refl refl
-      (colours-eq (rw (marking-is (phase h₀)) (marks (eqb (phase h₀) 1) refl)) (fun-ext g-at) (rw (rest globalsStateAt (omega arith)))
+      (colours-eq (rw (marking-is (phase h₀)) (marks (eqb (phase h₀) mark) refl)) (fun-ext g-at) (rw (rest globalsStateAt (omega arith)))
       (fun-ext (λ x. rw (rest (firstState + x) (omega arith)))))
       (slot-set (h₀ .roots) s i (addressOf w) (F₀ .sized .roots) hs hi)
       (fun-ext (λ g. rw (rest (firstGlobal + g) (omega arith))))
       (fun-ext (λ x. rw (rest (firstState + x) (omega arith))))
       (ap phaseOf (rest phaseAt (omega arith)))
     where
-      marks : (b : Bool) → eqb (phase h₀) 1 ≡ b → is marked after ≡ cond b (update (is marked h₀) w true) (is marked h₀)
+      marks : (b : Bool) → eqb (phase h₀) mark ≡ b → is marked after ≡ cond b (update (is marked h₀) w true) (is marked h₀)
       marks true e = fun-ext (λ v. rw (m-at v, e, update-is (is marked h₀) w true v))
       marks false e = fun-ext (λ v. rw (m-at v, e))
 
@@ -125,7 +125,7 @@ module _ {h₀ : Heap} {u : List ℕ} {w n p : ℕ} (F₀ : Audited h₀) (C : C
       past : p < n → is pointer after (w + p) ≡ false
       past l = rw (p-at (w + p), within-high w p (w + p) (omega arith)) (bare (C .spans) (C .bits) S (w + p) (rw start (omega arith)) (rw (start, long) (omega arith)))
 
-  old-map : (v : ℕ) → T (is allocated h₀ v) → Alike (elementsOf u (is pointer after)) (elementsOf (h₀ .table) (is pointer h₀)) v
+  old-map : (v : ℕ) → T (is allocated h₀ v) → Alike (elementsIn u (is pointer after)) (elementsIn (h₀ .table) (is pointer h₀)) v
   unfolding scansAt wordsAt
   old-map v x = (
     C .scans v x,
@@ -146,10 +146,10 @@ module _ {h₀ : Heap} {u : List ℕ} {w n p : ℕ} (F₀ : Audited h₀) (C : C
   unfolding lateAt
   lates v x = rw (C .flags v x, C .used v x)
 
-  pub taken-step : LegalColours (view h₀) → T (view h₀ .opened s) → Step (view h₀) (Event.writes (Write.allocate s i p n (addressOf w))) (view (taken s i w n p (withTable u h₀)))
+  pub allotted-step : LegalColours (view h₀) → T (view h₀ .opened s) → Step (view h₀) (Event.writes (Write.allocate s i p n (addressOf w))) (view (allotted s i w n p (withTable u h₀)))
   unfolding view wordsAt
-  taken-step A o =
-      rw is-new (Trace.Step.allocate s i p n w (λ x. getD (after .arena) x 0) (elementsOf u (is pointer after)) (lateAt u) A o hi apart
+  allotted-step A o =
+      rw is-new (Trace.Step.allocate s i p n w (λ x. getD (after .arena) x 0) (elementsIn u (is pointer after)) (lateAt u) A o hi apart
       (pointers, some) zeroed alone new-map old-map not-late lates)
     where
       apart : (v : ℕ) → T (is allocated h₀ v) → (v + wordsAt (h₀ .table) v ≤ w) ⊎ (w + n ≤ v)
@@ -171,7 +171,7 @@ module _ {h : Heap} (F : Audited h) (s : ℕ) (span : IsSpan (h .table) s) (unsw
   abbrev then : Heap
   then = swept s h
 
-  is-sweep : view then ≡ heapSweep q (elementsOf (sweptTable h s) (is pointer then)) (view h)
+  is-sweep : view then ≡ heapSweep q (elementsIn (sweptTable h s) (is pointer then)) (view h)
   unfolding view heapSweep lateAt
   is-sweep = heap-eq refl (fun-ext (swept-at h (F .sized) s (F .spans .inside s span) allocated)) refl (fun-ext (late-swept F s span unswept))
       (colours-eq (fun-ext (swept-at h (F .sized) s (F .spans .inside s span) marked)) (fun-ext (swept-at h (F .sized) s (F .spans .inside s span) gray)) refl
@@ -181,7 +181,7 @@ module _ {h : Heap} (F : Audited h) (s : ℕ) (span : IsSpan (h .table) s) (unsw
   unfolding lateAt
   was-late′ w a x = rw (was-late F s span unswept w (of-true _ x), ne-eqb (owner (h .table) (w / pageWords)) 0 (omega (arith, F .bits .element w a .lies .used)))
 
-  stay-alike : (w : ℕ) → T (cond (q w) (is marked h w) (is allocated h w)) → Alike (elementsOf (sweptTable h s) (is pointer then)) (elementsOf (h .table) (is pointer h)) w
+  stay-alike : (w : ℕ) → T (cond (q w) (is marked h w) (is allocated h w)) → Alike (elementsIn (sweptTable h s) (is pointer then)) (elementsIn (h .table) (is pointer h)) w
   unfolding scansAt wordsAt
   stay-alike w x =
       let L = stay-like F s span unswept w x in (
@@ -193,4 +193,4 @@ module _ {h : Heap} (F : Audited h) (s : ℕ) (span : IsSpan (h .table) s) (unsw
 
   pub swept-step : LegalColours (view h) → phase h ≡ sweep → Step (view h) Event.sweepStep (view (swept s h))
   unfolding view
-  swept-step A two = rw is-sweep (Trace.Step.sweepStep q (elementsOf (sweptTable h s) (is pointer then)) A (rw two) was-late′ stay-alike)
+  swept-step A two = rw is-sweep (Trace.Step.sweepStep q (elementsIn (sweptTable h s) (is pointer then)) A (rw two) was-late′ stay-alike)

@@ -1,4 +1,4 @@
--- An element is taken: the bits, the words and the facts of the audit afterwards. The page table may just have got the element's span.
+-- An element is allotted: the bits, the words and the facts of the audit afterwards. The page table may just have got the element's span.
 use Prim.Native.Nat.{ℕ, _+_, _-_, _*_, _/_, _<_, _≤_}
 use mathlib.Core.List.{List}
 use mathlib.Core.Bool.{Bool, true, false, cond, _&&_, and-false, true≢false}
@@ -9,7 +9,7 @@ use lib.ListN.{getD, set, length-set}
 use lib.Dec.{T, eqb, ltb, eqb→eq, ltb→lt}
 use borrow.Author.Tests.{lt-ltb, lt-leb, eq-eqb, ne-eqb, eqb-true, eqb-false}
 use Rattle.model.proofs.Named.{refers-over, address-refers}
-use Rattle.model.specs.Memory.{Heap, lent, putWords, slotAt, addressOf, phase, stackCount, slotCount, firstGlobal, firstState, globalsStateAt, phaseAt, pageWords, unsweptFlag}
+use Rattle.model.specs.Memory.{Heap, lent, putWords, slotAt, addressOf, phase, stackCount, slotCount, firstGlobal, firstState, globalsStateAt, phaseAt, pageWords, unsweptFlag, off, mark, sweep, closed}
 use Rattle.model.specs.Bitmaps.{Part, allocated, marked, gray, pointer, is}
 use Rattle.model.specs.Spans.{owner, pageCount, kindEntry, elementWords, elementStart, spanOf, elementOf, kept}
 use Rattle.model.specs.Allocate.{newBits}
@@ -22,9 +22,9 @@ use Rattle.model.proofs.Spans.{span-of, in-span, spans-apart, elements-apart, e
 use Rattle.model.proofs.Effects.{new-length, new-at}
 use Rattle.keeps.proofs.Tables.{Chosen}
 
--- the heap after the element of n words at word w was taken, with p pointers, into slot i of stack s
-abbrev pub taken : (s i w n p : ℕ) → Heap → Heap
-taken s i w n p h = lent (h .pages) (putWords w n (λ v. 0) (h .arena)) (h .table) (newBits h w p) (set (h .roots) (slotAt s i) (addressOf w))
+-- the heap after the element of n words at word w was allotted, with p pointers, into slot i of stack s
+abbrev pub allotted : (s i w n p : ℕ) → Heap → Heap
+allotted s i w n p h = lent (h .pages) (putWords w n (λ v. 0) (h .arena)) (h .table) (newBits h w p) (set (h .roots) (slotAt s i) (addressOf w))
 
 cond-split : (c x : Bool) → T (cond c true x) → T c ⊎ T x
 cond-split true x t = inl tt
@@ -94,51 +94,51 @@ module _ {h : Heap} (Z : Sized h) (F : Spans (h .pages) (h .table)) (C : Bits (h
   b′ = newBits h (elementStart (h .table) r k) p
 
   abbrev after : Heap
-  after = taken s i (elementStart (h .table) r k) (elementWords (h .table) r) p h
+  after = allotted s i (elementStart (h .table) r k) (elementWords (h .table) r) p h
 
   at : (q : Part) (v : ℕ) → bit P q b′ v ≡
-      cond (eqb (phase h) 1 && (samePart q marked && eqb v w)) true
+      cond (eqb (phase h) mark && (samePart q marked && eqb v w)) true
       (cond (samePart q pointer && within w p v) true (cond (samePart q allocated && eqb v w) true (is q h v)))
   at = new-at h w p Z (omega (arith, ends F C S)) (omega (arith, ends F C S, S .pointers))
 
-  pub taken-a : (v : ℕ) → bit (h .pages) allocated (newBits h (elementStart (h .table) r k) p) v ≡ cond (eqb v (elementStart (h .table) r k)) true (is allocated h v)
-  taken-a v = rw (at allocated v, and-false (eqb (phase h) 1))
+  pub allotted-a : (v : ℕ) → bit (h .pages) allocated (newBits h (elementStart (h .table) r k) p) v ≡ cond (eqb v (elementStart (h .table) r k)) true (is allocated h v)
+  allotted-a v = rw (at allocated v, and-false (eqb (phase h) mark))
 
-  pub taken-m : (v : ℕ) → bit (h .pages) marked (newBits h (elementStart (h .table) r k) p) v ≡ cond (eqb (phase h) 1 && eqb v (elementStart (h .table) r k))
+  pub allotted-m : (v : ℕ) → bit (h .pages) marked (newBits h (elementStart (h .table) r k) p) v ≡ cond (eqb (phase h) mark && eqb v (elementStart (h .table) r k))
       true (is marked h v)
-  taken-m v = at marked v
+  allotted-m v = at marked v
 
-  pub taken-g : (v : ℕ) → bit (h .pages) gray (newBits h (elementStart (h .table) r k) p) v ≡ is gray h v
-  taken-g v = rw (at gray v, and-false (eqb (phase h) 1))
+  pub allotted-g : (v : ℕ) → bit (h .pages) gray (newBits h (elementStart (h .table) r k) p) v ≡ is gray h v
+  allotted-g v = rw (at gray v, and-false (eqb (phase h) mark))
 
-  pub taken-p : (v : ℕ) → bit (h .pages) pointer (newBits h (elementStart (h .table) r k) p) v ≡ cond (within (elementStart (h .table) r k) p v) true (is pointer h v)
-  taken-p v = rw (at pointer v, and-false (eqb (phase h) 1))
+  pub allotted-p : (v : ℕ) → bit (h .pages) pointer (newBits h (elementStart (h .table) r k) p) v ≡ cond (within (elementStart (h .table) r k) p v) true (is pointer h v)
+  allotted-p v = rw (at pointer v, and-false (eqb (phase h) mark))
 
-  pub taken-word : (x : ℕ) → getD (putWords (elementStart (h .table) r k) (elementWords (h .table) r) (λ v. 0) (h .arena)) x 0 ≡ cond
+  pub allotted-word : (x : ℕ) → getD (putWords (elementStart (h .table) r k) (elementWords (h .table) r) (λ v. 0) (h .arena)) x 0 ≡ cond
       (within (elementStart (h .table) r k) (elementWords (h .table) r) x) 0 (getD (h .arena) x 0)
-  taken-word = words-at (pageWords * P) w n (λ v. 0) (h .arena) (ends F C S .1) (Z .arena)
+  allotted-word = words-at (pageWords * P) w n (λ v. 0) (h .arena) (ends F C S .1) (Z .arena)
 
   on : T (bit P allocated b′ w)
-  on = rw (taken-a w) (cond-hit (eqb w w) (is allocated h w) (is-true _ (eq-eqb w w refl)))
+  on = rw (allotted-a w) (cond-hit (eqb w w) (is allocated h w) (is-true _ (eq-eqb w w refl)))
 
   more-a : (v : ℕ) → T (is allocated h v) → T (bit P allocated b′ v)
-  more-a v a = rw (taken-a v) (cond-more (eqb v w) (is allocated h v) a)
+  more-a v a = rw (allotted-a v) (cond-more (eqb v w) (is allocated h v) a)
 
   more-p : (v : ℕ) → T (is pointer h v) → T (bit P pointer b′ v)
-  more-p v a = rw (taken-p v) (cond-more (within w p v) (is pointer h v) a)
+  more-p v a = rw (allotted-p v) (cond-more (within w p v) (is pointer h v) a)
 
   new-p : (v : ℕ) → w ≤ v → v < w + p → T (bit P pointer b′ v)
-  new-p v a c = rw (taken-p v, within-yes w p v a c) tt
+  new-p v a c = rw (allotted-p v, within-yes w p v a c) tt
 
   was-a : (v : ℕ) → T (bit P allocated b′ v) → (v ≡ w) ⊎ T (is allocated h v)
-  was-a v a = go (cond-split (eqb v w) (is allocated h v) (rw (taken-a v) at a))
+  was-a v a = go (cond-split (eqb v w) (is allocated h v) (rw (allotted-a v) at a))
     where
       go : (T (eqb v w) ⊎ T (is allocated h v)) → (v ≡ w) ⊎ T (is allocated h v)
       go (inl e) = inl (eqb→eq v w e)
       go (inr x) = inr x
 
   was-p : (v : ℕ) → T (bit P pointer b′ v) → ((w ≤ v) × (v < w + p)) ⊎ T (is pointer h v)
-  was-p v a = go (cond-split (within w p v) (is pointer h v) (rw (taken-p v) at a))
+  was-p v a = go (cond-split (within w p v) (is pointer h v) (rw (allotted-p v) at a))
     where
       go : (T (within w p v) ⊎ T (is pointer h v)) → ((w ≤ v) × (v < w + p)) ⊎ T (is pointer h v)
       go (inl e) = inl (within-true w p v (of-true _ e))
@@ -157,22 +157,22 @@ module _ {h : Heap} (Z : Sized h) (F : Spans (h .pages) (h .table)) (C : Bits (h
   new-element : Element t w
   new-element = element-at F r k (S .span) (S .number)
 
-  taken-bits : Bits P t b′
-  taken-bits = record {
+  allotted-bits : Bits P t b′
+  allotted-bits = record {
     element = λ v a. elem v (was-a v a);
-    marks = λ v m. marks v (cond-split (eqb (phase h) 1 && eqb v w) (is marked h v) (rw (taken-m v) at m));
-    grays = λ v g. let f = C .grays v (rw (taken-g v) at g) in (rw (taken-m v) (cond-more (eqb (phase h) 1 && eqb v w) (is marked h v) (f .0)), f .1);
+    marks = λ v m. marks v (cond-split (eqb (phase h) mark && eqb v w) (is marked h v) (rw (allotted-m v) at m));
+    grays = λ v g. let f = C .grays v (rw (allotted-g v) at g) in (rw (allotted-m v) (cond-more (eqb (phase h) mark && eqb v w) (is marked h v) (f .0)), f .1);
     pointers = λ v q. ptrs v (was-p v q);
     head = λ v a c. heads v c (was-a v a);
-    run = λ v q l. runs v l (was-p v q);
+    unbroken = λ v q l. runs v l (was-p v q);
   }
     where
       elem : (v : ℕ) → ((v ≡ w) ⊎ T (is allocated h v)) → Element t v
       elem v (inl e) = rw e new-element
       elem v (inr a) = C .element v a
 
-      marks : (v : ℕ) → (T (eqb (phase h) 1 && eqb v w) ⊎ T (is marked h v)) → T (bit P allocated b′ v)
-      marks v (inl e) = rw (eqb→eq v w (and-iff (eqb (phase h) 1) (eqb v w) .0 e .1)) on
+      marks : (v : ℕ) → (T (eqb (phase h) mark && eqb v w) ⊎ T (is marked h v)) → T (bit P allocated b′ v)
+      marks v (inl e) = rw (eqb→eq v w (and-iff (eqb (phase h) mark) (eqb v w) .0 e .1)) on
       marks v (inr m) = more-a v (C .marks v m)
 
       ptrs : (v : ℕ) → (((w ≤ v) × (v < w + p)) ⊎ T (is pointer h v)) → InElement t v × T (scanAt t v) × T (bit P allocated b′ (elementOf t v))
@@ -191,33 +191,33 @@ module _ {h : Heap} (Z : Sized h) (F : Spans (h .pages) (h .table)) (C : Bits (h
 
       runs : (v : ℕ) → elementOf t v ≢ v → (((w ≤ v) × (v < w + p)) ⊎ T (is pointer h v)) → T (bit P pointer b′ (v - 1))
       runs v d (inl c) = let e = mine v (c .0) (omega (arith, S .pointers)) .2 in let x : v ≢ w = λ y. d (e ∙ sym y) in new-p (v - 1) (omega arith) (omega arith)
-      runs v d (inr q) = more-p (v - 1) (C .run v q d)
+      runs v d (inr q) = more-p (v - 1) (C .unbroken v q d)
 
-  taken-phases : Phases P (phase h) t (h .bits) → Phases P (phase h) t b′
-  taken-phases Q = record {
-    none = λ e v. rw (taken-m v, other 0 e (omega arith)) (Q .none e v);
+  allotted-phases : Phases P (phase h) t (h .bits) → Phases P (phase h) t b′
+  allotted-phases Q = record {
+    none = λ e v. rw (allotted-m v, other off e (omega arith)) (Q .none e v);
     swept = Q .swept;
-    plain = λ d v. rw (taken-g v) (Q .plain d v);
-    unswept = λ e v m. Q .unswept e v (rw (taken-m v, other 2 e (omega arith)) at m);
+    plain = λ d v. rw (allotted-g v) (Q .plain d v);
+    unswept = λ e v m. Q .unswept e v (rw (allotted-m v, other sweep e (omega arith)) at m);
   }
     where
-      other : (x : ℕ) → phase h ≡ x → x ≢ 1 → eqb (phase h) 1 ≡ false
-      other x e d = ne-eqb (phase h) 1 (λ q. d (sym e ∙ q))
+      other : (x : ℕ) → phase h ≡ x → x ≢ mark → eqb (phase h) mark ≡ false
+      other x e d = ne-eqb (phase h) mark (λ q. d (sym e ∙ q))
 
   -- what was kept is kept; a kept element is the new one or was kept
   kept-more : (v : ℕ) → T (kept h v) → T (keptAt P t b′ v)
   kept-more v = go (unsweptAt t v)
     where
       go : (c : Bool) → T (cond c (is marked h v) (is allocated h v)) → T (cond c (bit P marked b′ v) (bit P allocated b′ v))
-      go true m = rw (taken-m v) (cond-more (eqb (phase h) 1 && eqb v w) (is marked h v) m)
+      go true m = rw (allotted-m v) (cond-more (eqb (phase h) mark && eqb v w) (is marked h v) m)
       go false a = more-a v a
 
   kept-was : (v : ℕ) → v ≢ w → T (keptAt P t b′ v) → T (kept h v)
   kept-was v d = go (unsweptAt t v)
     where
       go : (c : Bool) → T (cond c (bit P marked b′ v) (bit P allocated b′ v)) → T (cond c (is marked h v) (is allocated h v))
-      go true m = rw (taken-m v, ne-eqb v w d, and-false (eqb (phase h) 1)) at m
-      go false a = rw (taken-a v, ne-eqb v w d) at a
+      go true m = rw (allotted-m v, ne-eqb v w d, and-false (eqb (phase h) mark)) at m
+      go false a = rw (allotted-a v, ne-eqb v w d) at a
 
   refers-more : (a : ℕ) → Reference P t (h .bits) a → Reference P t b′ a
   refers-more = refers-over P t t (h .bits) b′ kept-more
@@ -229,8 +229,8 @@ module _ {h : Heap} (Z : Sized h) (F : Spans (h .pages) (h .table)) (C : Bits (h
   roots-at : (x : ℕ) → getD (after .roots) x 0 ≡ cond (eqb x (slotCount * s + i)) (addressOf w) (getD (h .roots) x 0)
   roots-at x = set-at (h .roots) (slotCount * s + i) (addressOf w) (omega (arith, Z .roots)) x
 
-  taken-references : References h → References after
-  taken-references H = record {
+  allotted-references : References h → References after
+  allotted-references H = record {
     root = λ x l. rw (roots-at x) (root x l (eqb x (slotCount * s + i)));
     content = λ v q kp. ptr v (was-p v q) kp;
   }
@@ -240,16 +240,16 @@ module _ {h : Heap} (Z : Sized h) (F : Spans (h .pages) (h .table)) (C : Bits (h
       root x l false = refers-more (getD (h .roots) x 0) (H .root x l)
 
       ptr : (v : ℕ) → (((w ≤ v) × (v < w + p)) ⊎ T (is pointer h v)) → T (keptAt P t b′ (elementOf t v)) → Reference P t b′ (getD (after .arena) v 0)
-      ptr v (inl c) kp = inl (rw (taken-word v, within-yes w n v (c .0) (omega (arith, S .pointers))))
-      ptr v (inr q) kp = rw (taken-word v) (go (within w n v))
+      ptr v (inl c) kp = inl (rw (allotted-word v, within-yes w n v (c .0) (omega (arith, S .pointers))))
+      ptr v (inr q) kp = rw (allotted-word v) (go (within w n v))
         where
           go : (c : Bool) → Reference P t b′ (cond c 0 (getD (h .arena) v 0))
           go true = inl refl
           go false = refers-more (getD (h .arena) v 0)
               (H .content v q (kept-was (elementOf t v) (λ x. true≢false (sym (of-true _ (rw x at (C .pointers v q .2))) ∙ S .free)) kp))
 
-  taken-states : getD (h .roots) (firstState + s) 0 ≢ 0 → States (h .roots) → States (after .roots)
-  taken-states o G = record {
+  allotted-states : getD (h .roots) (firstState + s) 0 ≢ closed → States (h .roots) → States (after .roots)
+  allotted-states o G = record {
     phase = rw (rest phaseAt (omega arith)) (G .phase);
     legal = λ x l. rw (rest (firstState + x) (omega arith), rest phaseAt (omega arith)) (G .legal x l);
     globals = rw (rest globalsStateAt (omega arith), rest phaseAt (omega arith)) (G .globals);
@@ -260,20 +260,20 @@ module _ {h : Heap} (Z : Sized h) (F : Spans (h .pages) (h .table)) (C : Bits (h
       rest : (x : ℕ) → firstGlobal ≤ x → getD (after .roots) x 0 ≡ getD (h .roots) x 0
       rest x l = rw (roots-at x, ne-eqb x (slotCount * s + i) (omega arith))
 
-      other : (x j : ℕ) → j < slotCount → getD (h .roots) (firstState + x) 0 ≡ 0 → x ≢ s
+      other : (x j : ℕ) → j < slotCount → getD (h .roots) (firstState + x) 0 ≡ closed → x ≢ s
       other x j l e q = o (rw q at e)
 
-  taken-occupied : ((x : ℕ) → IsSpan t x → x ≢ r → (v : ℕ) × T (is allocated h v) × (spanOf t v ≡ x)) → Occupied P t b′
-  taken-occupied G x e = go (eqb x r) refl
+  allotted-occupied : ((x : ℕ) → IsSpan t x → x ≢ r → (v : ℕ) × T (is allocated h v) × (spanOf t v ≡ x)) → Occupied P t b′
+  allotted-occupied G x e = go (eqb x r) refl
     where
       go : (c : Bool) → eqb x r ≡ c → (v : ℕ) × T (bit P allocated b′ v) × (spanOf t v ≡ x)
       go true q = (w, on, mine w (start-w .0) (start-w .1) .1 ∙ sym (eqb-true x r q))
       go false q = let f = G x e (eqb-false x r q) in (f .0, more-a (f .0) (f .1), f .2)
 
-  pub taken-kept : Phases (h .pages) (phase h) (h .table) (h .bits) → References h → States (h .roots) → getD (h .roots) (firstState + s) 0 ≢ 0 →
+  pub allotted-kept : Phases (h .pages) (phase h) (h .table) (h .bits) → References h → States (h .roots) → getD (h .roots) (firstState + s) 0 ≢ closed →
       ((x : ℕ) → IsSpan (h .table) x → x ≢ r → (v : ℕ) × T (is allocated h v) × (spanOf (h .table) v ≡ x)) →
-      Audited (taken s i (elementStart (h .table) r k) (elementWords (h .table) r) p h)
-  taken-kept Q H G o N = record {
+      Audited (allotted s i (elementStart (h .table) r k) (elementWords (h .table) r) p h)
+  allotted-kept Q H G o N = record {
     sized = record {
       low = Z .low;
       high = Z .high;
@@ -283,11 +283,11 @@ module _ {h : Heap} (Z : Sized h) (F : Spans (h .pages) (h .table)) (C : Bits (h
       roots = length-set (h .roots) (slotCount * s + i) (addressOf w) ∙ Z .roots;
     };
     spans = F;
-    bits = taken-bits;
-    phases = rw same (taken-phases Q);
-    references = taken-references H;
-    states = taken-states o G;
-    occupied = taken-occupied N;
+    bits = allotted-bits;
+    phases = rw same (allotted-phases Q);
+    references = allotted-references H;
+    states = allotted-states o G;
+    occupied = allotted-occupied N;
   }
     where
       same : getD (set (h .roots) (slotCount * s + i) (addressOf w)) phaseAt 0 ≡ getD (h .roots) phaseAt 0
