@@ -8,7 +8,7 @@ use native.Mathlib.Omega.{arith}
 use lib.Dec.{leb}
 use borrow.Author.Tests.{le-leb, lt-leb, leb-false}
 use Rattle.model.specs.Memory.{Heap}
-use Rattle.model.specs.Answers.{Outcome, Meets, badBuffers}
+use Rattle.model.specs.Answers.{Outcome, Meets, accepted, badBuffers}
 use Rattle.model.specs.Calls as model
 use Rattle.model.specs.declared.Answer.{Answer}
 use Rattle.model.specs.declared.Answer.the-variants.{Refused}
@@ -18,7 +18,7 @@ use Rattle.lines.specs.declared.Line.the-variants.{Bad, Setup, Call}
 use Rattle.lines.proofs.Line.{enum}
 use Rattle.answers.specs.Text.{answerText, badText, Wrote}
 use Rattle.answers.proofs.Bytes.{answer-length, bad-length}
-use Rattle.trace.specs.Play.{answered, playedBad, isAccepted, mostPages, inReach, setupRefused, playedSetup, withPages, first, later, pagesOf, Plays}
+use Rattle.trace.specs.Play.{answered, playedBad, mostPages, inReach, setupRefused, playedSetup, withPages, first, later, pagesOf, Plays}
 
 -- a call was made and its answer written
 pub plays : {o : Outcome} {answer : Answer} {a t b s x y : List ℕ} {at e : ℕ} (more : Bool) → Meets o answer a t b s → Wrote (answerText answer) at x y e → Plays (answered o more) at x y (record { at = e; more = more }) a t b s
@@ -69,7 +69,7 @@ plays-refused h p r w = rw r (plays {o = setupRefused h} false (record { answer 
 
 -- .. and in reach
 pub plays-setup : {answer : Answer} {a t b s x y : List ℕ} {at e : ℕ} {more : Bool} (h : Heap) (p : ℕ) → inReach p ≡ true →
-    Meets (model.run (withPages p h) model.Setup) answer a t b s → more ≡ isAccepted answer → Wrote (answerText answer) at x y e →
+    Meets (model.run (withPages p h) model.Setup) answer a t b s → more ≡ accepted answer → Wrote (answerText answer) at x y e →
     Plays (playedSetup p h) at x y (record { at = e; more = more }) a t b s
 unfolding playedSetup
 plays-setup {answer} {a} {t} {b} {s} {x} {y} {at} {e} {more} h p r m k w =

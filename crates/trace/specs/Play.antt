@@ -5,10 +5,9 @@ use mathlib.Core.List.{List}
 use mathlib.Core.Path.{_≡_}
 use Rattle.model.specs.Bounded.{_≤?_, if_then_else_}
 use Rattle.model.specs.Memory.{Heap, lent}
-use Rattle.model.specs.Answers.{Outcome, badBuffers}
+use Rattle.model.specs.Answers.{Outcome, accepted, badBuffers}
 use Rattle.model.specs.Calls as model
-use Rattle.model.specs.declared.Answer.{Answer}
-use Rattle.model.specs.declared.Answer.the-variants.{Refused, Done, Value, Swept}
+use Rattle.model.specs.declared.Answer.the-variants.{Refused}
 use Rattle.lines.specs.declared.Line.{Line}
 use Rattle.lines.specs.declared.Line.the-variants.{Bad, Setup, Call}
 use Rattle.answers.specs.Text.{answerText, badText, longestAnswer, Wrote}
@@ -28,12 +27,6 @@ answered o more = record { text = answerText (o .answer); heap = o .heap; more =
 abbrev pub playedBad : ℕ → Heap → Played
 playedBad number h = record { text = badText number; heap = h; more = false }
 
-abbrev pub isAccepted : Answer → Bool
-isAccepted (Refused n) = false
-isAccepted Done = true
-isAccepted (Value v) = true
-isAccepted (Swept start freed returned) = true
-
 -- "P 1 to 8": the trace program has memory for so many pages
 abbrev pub mostPages : ℕ
 mostPages = 8
@@ -50,7 +43,7 @@ setupRefused h = record { answer = Refused badBuffers; heap = h }
 
 unfoldable pub playedSetup : ℕ → Heap → Played
 playedSetup p h =
-    if inReach p then answered (model.run (withPages p h) model.Setup) (isAccepted (model.run (withPages p h) model.Setup .answer))
+    if inReach p then answered (model.run (withPages p h) model.Setup) (accepted (model.run (withPages p h) model.Setup .answer))
     else answered (setupRefused h) false
 
 -- "`H P` comes first"; "so does .. a first line that is not H"

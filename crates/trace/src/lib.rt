@@ -4,9 +4,10 @@ ghost use mathlib.Core.Path.{_≡_};
 ghost use Prim.Native.Nat.{_+_, _≤_};
 ghost use lib.ListN.{length};
 ghost use Rattle.model.specs.Memory.{lent};
+ghost use Rattle.model.specs.Answers.{accepted};
 ghost use Rattle.lines.specs.Lines.{readLine};
 ghost use Rattle.answers.specs.Text.{longestAnswer};
-ghost use Rattle.trace.specs.Play.{mostPages, isAccepted, playedSetup, first, later, pagesOf, Plays};
+ghost use Rattle.trace.specs.Play.{mostPages, playedSetup, first, later, pagesOf, Plays};
 use lines::Line;
 use model::Answer;
 
@@ -33,10 +34,10 @@ pub fn pages(line: &[u8]) -> u64
 }
 
 fn is_accepted(answer: Answer) -> bool
-    ensures { λ r. ⌜ r ≡ isAccepted answer ⌝ }
+    ensures { λ r. ⌜ r ≡ accepted answer ⌝ }
 {
     match answer {
-        Answer::Refused(_) => false,
+        Answer::Refused(n) => n == 0,
         Answer::Done => true,
         Answer::Value(_) => true,
         Answer::Swept(_, _, _) => true,
