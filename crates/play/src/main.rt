@@ -14,6 +14,15 @@ const STDIN: i32 = 0;
 
 const STDOUT: i32 = 1;
 
+// The memory of the most pages that a trace may ask for.
+const PAGES: usize = trace::MOST_PAGES as usize;
+
+const ARENA_WORDS: usize = units::PAGE_WORDS * PAGES;
+
+const TABLE_NUMBERS: usize = units::ENTRY_NUMBERS * PAGES;
+
+const BITMAP_WORDS: usize = units::BITMAP_WORDS * PAGES;
+
 // How far the run is: P (0 before the first line), the lines played, the bytes of the line under
 // way, the bytes of output that wait, and whether the run goes on.
 pub struct Progress {
@@ -237,11 +246,11 @@ fn end(out: &mut [u8], run: Progress)
 }
 
 fn main() {
-    let mut arena = [0u64; 8192];
-    let mut table = [0u32; 24];
-    let mut bits = [0u64; 512];
-    let mut roots = [0u64; 562];
-    let mut line = [0u8; 80];
+    let mut arena = [0u64; ARENA_WORDS];
+    let mut table = [0u32; TABLE_NUMBERS];
+    let mut bits = [0u64; BITMAP_WORDS];
+    let mut roots = [0u64; units::ROOT_WORDS];
+    let mut line = [0u8; lines::LONGEST];
     let mut block = io::large_buffer();
     let mut out = io::large_buffer();
     let mut run = begun();
