@@ -1,8 +1,9 @@
 #!/usr/bin/env bash
-# Compares the proved heap with the plain one, from outside: the archive of C functions is built and linked to the comparing programs of
-# peer/compare and to the C example, and the proved trace program, where it is built, is compared with the plain one. Each part that fails fails the
-# script; its last line says what passed.
-# HEAP_ARCHIVE_DIR names the folder of an archive that is already built. COMPARE_SEED and COMPARE_CALLS set another seed and a longer run.
+# Compares the proved heap with the plain one, from outside: the archive of C functions is built and linked to the
+# comparing programs of peer/compare and to the C example, and the proved trace program, where it is built, is compared
+# with the plain one. Each part that fails fails the script; its last line says what passed.
+# HEAP_ARCHIVE_DIR names the folder of an archive that is already built. COMPARE_SEED and COMPARE_CALLS set another seed
+# and a longer run.
 set -u
 cd "$(dirname "$0")/.." || exit 1
 program=target/bin/play
@@ -39,7 +40,8 @@ finish() {
 }
 
 c_example() {
-  "${CC:-cc}" -std=c99 -O2 -Wall -Wextra -Werror -pedantic -Iinclude examples/cycle.c "$HEAP_ARCHIVE_DIR/libexports.a" -o "$work/cycle" &&
+  "${CC:-cc}" -std=c99 -O2 -Wall -Wextra -Werror -pedantic -Iinclude -o "$work/cycle" \
+    examples/cycle.c "$HEAP_ARCHIVE_DIR/libexports.a" &&
     "$work/cycle" > "$work/cycle.out"
   local status=$?
   tail -n 1 "$work/cycle.out"

@@ -51,9 +51,11 @@ fn mark_new(p: usize, bits: &mut [u64], roots: &[u64], w: usize, pointers: usize
 
 // The words of the new element become 0.
 fn zero_element(arena: &mut [u64], w: usize, size: u64)
-    requires { ⌜ (size ≤ maxSize) × (w + elementWordsOf (classOf size) (pagesFor size) ≤ length (now arena)) ⌝ }
+    requires { ⌜
+        (size ≤ maxSize) × (w + elementWordsOf (classOf size) (pagesFor size) ≤ length (now arena)) ⌝ }
     ensures { λ r. ⌜
-        now (arena .exit) ≡ putWords w (elementWordsOf (classOf size) (pagesFor size)) (λ v. 0) (now (arena .entry)) ⌝ }
+        now (arena .exit) ≡
+        putWords w (elementWordsOf (classOf size) (pagesFor size)) (λ v. 0) (now (arena .entry)) ⌝ }
 {
     let words = classes::element_words(classes::class_of(size), classes::pages_for(size));
     words::zero_part(arena, w, words);

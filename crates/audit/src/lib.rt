@@ -20,7 +20,9 @@ use units::SWEEP;
 
 // P is 1 to 256, and the four buffers have its lengths.
 pub fn buffers_ok(p: u64, arena: &[u64], table: &[u32], bits: &[u64], roots: &[u64]) -> bool
-    ensures { λ r. ⌜ (T r ↔ Sized (lent p (now (arena .entry)) (now (table .entry)) (now (bits .entry)) (now (roots .entry)))) ⌝ }
+    ensures { λ r. ⌜
+        (T r ↔
+        Sized (lent p (now (arena .entry)) (now (table .entry)) (now (bits .entry)) (now (roots .entry)))) ⌝ }
 {
     if p < 1 {
         return false;
@@ -44,7 +46,8 @@ pub fn buffers_ok(p: u64, arena: &[u64], table: &[u32], bits: &[u64], roots: &[u
 // The audit says yes.
 pub fn audit(p: usize, arena: &[u64], table: &[u32], bits: &[u64], roots: &[u64]) -> bool
     requires { ⌜ Sized (lent p (now arena) (now table) (now bits) (now roots)) ⌝ }
-    ensures { λ r. ⌜ r ≡ audit (lent p (now (arena .entry)) (now (table .entry)) (now (bits .entry)) (now (roots .entry))) ⌝ }
+    ensures { λ r. ⌜
+        r ≡ audit (lent p (now (arena .entry)) (now (table .entry)) (now (bits .entry)) (now (roots .entry))) ⌝ }
 {
     if !audit_pages::states_ok(roots) {
         return false;
@@ -69,7 +72,8 @@ pub fn audit(p: usize, arena: &[u64], table: &[u32], bits: &[u64], roots: &[u64]
 // The refusal that every call after setup gives first: 1 for P and the lengths, 12 for damaged
 // buffers, 0 for neither.
 pub fn entry(p: u64, arena: &[u64], table: &[u32], bits: &[u64], roots: &[u64]) -> u64
-    ensures { λ r. ⌜ r ≡ entry (lent p (now (arena .entry)) (now (table .entry)) (now (bits .entry)) (now (roots .entry))) ⌝ }
+    ensures { λ r. ⌜
+        r ≡ entry (lent p (now (arena .entry)) (now (table .entry)) (now (bits .entry)) (now (roots .entry))) ⌝ }
 {
     if !buffers_ok(p, arena, table, bits, roots) {
         return BAD_BUFFERS;

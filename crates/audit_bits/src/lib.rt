@@ -94,7 +94,8 @@ fn block_ok(
     scans: u64,
 ) -> bool
     requires { ⌜ Bitmaps p (now bits) × (at < pageBlocks * p) ⌝ }
-    ensures { λ r. ⌜ r ≡ allBelow 64 (blockRule p (now (bits .entry)) at starts off left before marks grays scans) ⌝ }
+    ensures { λ r. ⌜
+        r ≡ allBelow 64 (blockRule p (now (bits .entry)) at starts off left before marks grays scans) ⌝ }
 {
     if empty(p, bits, at) {
         return true;

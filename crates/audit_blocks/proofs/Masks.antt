@@ -3,7 +3,7 @@ use Prim.Native.Nat.{ℕ, zero, suc, _-_, _*_, _/_, _%_, _^_, _<_, min, max}
 use mathlib.Core.Bool.{Bool, true, false, not, cond, _&&_, _||_}
 use mathlib.Core.Path.{_≡_, refl}
 use native.Mathlib.Omega.{arith}
-use lib.Bits.{bitOr, bitAnd}
+use lib.Bits.{bitOr, bitAnd, and-le-l}
 use lib.Dec.{T, eqb, eqb·suc-zero}
 use borrow.Author.Tests.{eq-eqb, ne-eqb, eqb-true, eqb-false}
 use Rattle.model.specs.Bounded.{_implies_, allBelow}
@@ -61,6 +61,10 @@ zero-word x h = same-test (eqb x 0) (allBelow 64 (λ j. not (on x j))) none all
       where
         off : (j : ℕ) → on x j ≡ false → bitOf x j ≡ bitOf 0 j
         off j p = rw (bit-none j) (omega (arith, eqb-false (bitOf x j) 1 p, bit-below x j))
+
+-- a mask of a word is a word
+pub masked-fits : (x y : ℕ) → x < 2 ^ 64 → bitAnd x y < 2 ^ 64
+masked-fits x y h = omega (arith, and-le-l x y)
 
 -- no bit of x but where y has one
 pub not-and-not : (x y : Bool) → not (x && not y) ≡ (x implies y)

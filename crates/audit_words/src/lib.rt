@@ -79,8 +79,10 @@ fn range_ok(
     from: usize,
     to: usize,
 ) -> bool
-    requires { ⌜ Mapped p (now table) (now bits) × Told swept (now table) × Roots (now roots) × (to ≤ rootWords) ⌝ }
-    ensures { λ r. ⌜ (T r ↔ RootRange p (now (table .entry)) (now (bits .entry)) (now (roots .entry)) from to) ⌝ }
+    requires { ⌜
+        Mapped p (now table) (now bits) × Told swept (now table) × Roots (now roots) × (to ≤ rootWords) ⌝ }
+    ensures { λ r. ⌜
+        (T r ↔ RootRange p (now (table .entry)) (now (bits .entry)) (now (roots .entry)) from to) ⌝ }
 {
     let mut i = from;
     while i < to {
@@ -95,8 +97,10 @@ fn range_ok(
 
 // So are the slots of every stack. Those of a closed one are nil.
 fn slots_ok(p: usize, table: &[u32], bits: &[u64], roots: &[u64], swept: bool) -> bool
-    requires { ⌜ Mapped p (now table) (now bits) × Told swept (now table) × Roots (now roots) × States (now roots) ⌝ }
-    ensures { λ r. ⌜ (T r ↔ RootRange p (now (table .entry)) (now (bits .entry)) (now (roots .entry)) 0 firstGlobal) ⌝ }
+    requires { ⌜
+        Mapped p (now table) (now bits) × Told swept (now table) × Roots (now roots) × States (now roots) ⌝ }
+    ensures { λ r. ⌜
+        (T r ↔ RootRange p (now (table .entry)) (now (bits .entry)) (now (roots .entry)) 0 firstGlobal) ⌝ }
 {
     let mut s = 0;
     while s < STACKS {
@@ -114,7 +118,8 @@ fn slots_ok(p: usize, table: &[u32], bits: &[u64], roots: &[u64], swept: bool) -
 
 // So is every slot and every global.
 pub fn roots_ok(p: usize, table: &[u32], bits: &[u64], roots: &[u64], swept: bool) -> bool
-    requires { ⌜ Mapped p (now table) (now bits) × Told swept (now table) × Roots (now roots) × States (now roots) ⌝ }
+    requires { ⌜
+        Mapped p (now table) (now bits) × Told swept (now table) × Roots (now roots) × States (now roots) ⌝ }
     ensures { λ r. ⌜ (T r ↔ RootReferences p (now (table .entry)) (now (bits .entry)) (now (roots .entry))) ⌝ }
 {
     if !slots_ok(p, table, bits, roots, swept) {
@@ -162,8 +167,10 @@ fn blocks_ok(
     to: usize,
 ) -> bool
     requires { ⌜
-        Filled p (now arena) (now table) (now bits) × Told swept (now table) × (from ≤ to) × (to ≤ pageBlocks * p) ⌝ }
-    ensures { λ r. ⌜ (T r ↔ BlocksContents p (now (arena .entry)) (now (table .entry)) (now (bits .entry)) from to) ⌝ }
+        Filled p (now arena) (now table) (now bits) × Told swept (now table) ×
+        (from ≤ to) × (to ≤ pageBlocks * p) ⌝ }
+    ensures { λ r. ⌜
+        (T r ↔ BlocksContents p (now (arena .entry)) (now (table .entry)) (now (bits .entry)) from to) ⌝ }
 {
     let part = PARTS_BEFORE * (PAGE_BLOCKS * p);
     let mut k = from;

@@ -49,7 +49,8 @@ fn fill_words(ws: &mut [u64], first: usize, n: usize, value: u64)
 // Copies words `from` to `from + n - 1` to the n words at `to`, which lie before them.
 fn copy_words(ws: &mut [u64], to: usize, from: usize, n: usize)
     requires { ⌜ (to + n ≤ from) × (from + n ≤ length (now ws)) ⌝ }
-    ensures { λ r. ⌜ now (ws .exit) ≡ putWords to n (λ i. getD (now (ws .entry)) (i - to + from) 0) (now (ws .entry)) ⌝ }
+    ensures { λ r. ⌜
+        now (ws .exit) ≡ putWords to n (λ i. getD (now (ws .entry)) (i - to + from) 0) (now (ws .entry)) ⌝ }
 {
     let mut k = 0;
     while k < n {
@@ -132,7 +133,10 @@ pub fn count_range(ws: &[u64], first: usize, n: usize) -> usize
 // become those at `from`, and those at `from` go off. So the sweep makes marked words allocated.
 pub fn move_range(ws: &mut [u64], to: usize, from: usize, n: usize)
     requires { ⌜ (to + n ≤ from) × (from + n ≤ length (now ws)) ⌝ }
-    ensures { λ r. ⌜ now (ws .exit) ≡ writeRun withBit (from * 64) (n * 64) (λ i. false) (writeRun withBit (to * 64) (n * 64) (λ i. bitAt (now (ws .entry)) (i - to * 64 + from * 64)) (now (ws .entry))) ⌝ }
+    ensures { λ r. ⌜
+        now (ws .exit) ≡ writeRun withBit (from * 64) (n * 64) (λ i. false)
+        (writeRun withBit (to * 64) (n * 64) (λ i. bitAt (now (ws .entry)) (i - to * 64 + from * 64))
+        (now (ws .entry))) ⌝ }
 {
     copy_words(ws, to, from, n);
     fill_words(ws, from, n, 0);

@@ -11,7 +11,8 @@ use units::WORD_BITS;
 
 // The highest set bit at or after `from` and below `to`, or `to`. Both start a word.
 pub fn first_set(ws: &[u64], from: usize, to: usize) -> usize
-    requires { ⌜ (from ≤ to) × (to ≤ 64 * length (now ws)) × (from % wordBits ≡ 0) × (to % wordBits ≡ 0) ⌝ }
+    requires { ⌜
+        (from ≤ to) × (to ≤ 64 * length (now ws)) × (from % wordBits ≡ 0) × (to % wordBits ≡ 0) ⌝ }
     ensures { λ r. ⌜ r ≡ from + lastBelow (to - from) (λ k. bitAt (now (ws .entry)) (from + k)) ⌝ }
 {
     let first = from / WORD_BITS;

@@ -9,7 +9,8 @@ ghost use Prim.Native.Nat.{ℕ, _/_, _%_, _^_, _≤_, _<_};
 ghost use lib.Dec.{eqb};
 ghost use Rattle.model.specs.Bitmaps.{bitOf};
 ghost use Rattle.model.specs.Memory.{pageBytes, wordBytes, slotCount};
-ghost use Rattle.model.specs.Classes.{rows, classRows, elementBytes, classOf, kindOf, pagesFor, classPages, elementWordsOf, elementsOf};
+ghost use Rattle.model.specs.Classes.{rows, classRows, elementBytes, classOf, kindOf, pagesFor};
+ghost use Rattle.model.specs.Classes.{classPages, elementWordsOf, elementsOf};
 use units::PAGE_BYTES;
 use units::PAGE_WORDS;
 use units::WORD_BITS;
@@ -355,7 +356,8 @@ const STARTS: [u64; WORD_BITS] = [
 
 // Alone in reading CLASS_ROWS, so that one proof ties it to the model's rows.
 fn table() -> [Row; ROWS]
-    ensures { λ r. ⌜ r ≡ map (λ x. record { words = x .element / wordBytes; pages = x .span / pageBytes }) classRows ⌝ }
+    ensures { λ r. ⌜
+        r ≡ map (λ x. record { words = x .element / wordBytes; pages = x .span / pageBytes }) classRows ⌝ }
 {
     CLASS_ROWS
 }

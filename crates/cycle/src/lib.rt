@@ -72,7 +72,8 @@ pub fn mark_step(p: usize, arena: &[u64], table: &[u32], bits: &mut [u64], roots
 // Some stack is gray.
 fn some_gray(roots: &[u64]) -> bool
     requires { ⌜ Roots (now roots) ⌝ }
-    ensures { λ r. ⌜ r ≡ someBelow stackCount (λ s. eqb (getD (now (roots .entry)) (firstState + s) 0) grayState) ⌝ }
+    ensures { λ r. ⌜
+        r ≡ someBelow stackCount (λ s. eqb (getD (now (roots .entry)) (firstState + s) 0) grayState) ⌝ }
 {
     let mut s = 0;
     while s < units::STACKS {
@@ -87,7 +88,8 @@ fn some_gray(roots: &[u64]) -> bool
 // The refusal of a finish: something is gray.
 fn finish_refusal(p: usize, bits: &[u64], roots: &[u64]) -> u64
     requires { ⌜ Bitmaps p (now bits) × Roots (now roots) ⌝ }
-    ensures { λ r. ⌜ ((a t : List ℕ) → r ≡ finishRefusal (lent p a t (now (bits .entry)) (now (roots .entry)))) ⌝ }
+    ensures { λ r. ⌜
+        ((a t : List ℕ) → r ≡ finishRefusal (lent p a t (now (bits .entry)) (now (roots .entry)))) ⌝ }
 {
     if roots[units::PHASE] != units::MARK {
         return units::WRONG_PHASE;

@@ -4,7 +4,8 @@
 ghost use mathlib.Core.Path.{_≡_};
 ghost use Rattle.model.specs.Memory.{lent};
 ghost use Rattle.model.specs.Calls.{run, Setup, Audit, Open, Close, Allocate, Copy, Clear, Load, Store, Put, Get};
-ghost use Rattle.model.specs.Calls.{LoadGlobal, StoreGlobal, Start, ScanStack, ScanGlobals, MarkStep, Finish, SweepStep};
+ghost use Rattle.model.specs.Calls.{LoadGlobal, StoreGlobal};
+ghost use Rattle.model.specs.Calls.{Start, ScanStack, ScanGlobals, MarkStep, Finish, SweepStep};
 ghost use Rattle.exports.specs.Exported.{Exported, numberOf, withValues};
 use model::Answer;
 
@@ -49,7 +50,10 @@ pub extern "C" fn heap_setup(
     roots: &mut [u64],
     out: &mut [u64; 3],
 ) -> u64
-    ensures { λ r. ⌜ Exported (run (lent p (now (arena .entry)) (now (table .entry)) (now (bits .entry)) (now (roots .entry))) Setup) r (now (out .entry)) (now (out .exit)) (now (arena .entry)) (now (table .exit)) (now (bits .exit)) (now (roots .exit)) ⌝ }
+    ensures { λ r. ⌜ Exported
+        (run (lent p (now (arena .entry)) (now (table .entry)) (now (bits .entry)) (now (roots .entry))) Setup) r
+        (now (out .entry)) (now (out .exit))
+        (now (arena .entry)) (now (table .exit)) (now (bits .exit)) (now (roots .exit)) ⌝ }
 {
     let answer = heap::setup(p, arena, table, bits, roots);
     write_answer(answer, out)
@@ -64,7 +68,10 @@ pub extern "C" fn heap_audit(
     roots: &[u64],
     out: &mut [u64; 3],
 ) -> u64
-    ensures { λ r. ⌜ Exported (run (lent p (now (arena .entry)) (now (table .entry)) (now (bits .entry)) (now (roots .entry))) Audit) r (now (out .entry)) (now (out .exit)) (now (arena .entry)) (now (table .entry)) (now (bits .entry)) (now (roots .entry)) ⌝ }
+    ensures { λ r. ⌜ Exported
+        (run (lent p (now (arena .entry)) (now (table .entry)) (now (bits .entry)) (now (roots .entry))) Audit) r
+        (now (out .entry)) (now (out .exit))
+        (now (arena .entry)) (now (table .entry)) (now (bits .entry)) (now (roots .entry)) ⌝ }
 {
     let answer = heap::audit(p, arena, table, bits, roots);
     write_answer(answer, out)
@@ -80,7 +87,10 @@ pub extern "C" fn heap_open(
     s: u64,
     out: &mut [u64; 3],
 ) -> u64
-    ensures { λ r. ⌜ Exported (run (lent p (now (arena .entry)) (now (table .entry)) (now (bits .entry)) (now (roots .entry))) (Open s)) r (now (out .entry)) (now (out .exit)) (now (arena .entry)) (now (table .entry)) (now (bits .entry)) (now (roots .exit)) ⌝ }
+    ensures { λ r. ⌜ Exported
+        (run (lent p (now (arena .entry)) (now (table .entry)) (now (bits .entry)) (now (roots .entry))) (Open s)) r
+        (now (out .entry)) (now (out .exit))
+        (now (arena .entry)) (now (table .entry)) (now (bits .entry)) (now (roots .exit)) ⌝ }
 {
     let answer = heap::open(p, arena, table, bits, roots, s);
     write_answer(answer, out)
@@ -96,7 +106,10 @@ pub extern "C" fn heap_close(
     s: u64,
     out: &mut [u64; 3],
 ) -> u64
-    ensures { λ r. ⌜ Exported (run (lent p (now (arena .entry)) (now (table .entry)) (now (bits .entry)) (now (roots .entry))) (Close s)) r (now (out .entry)) (now (out .exit)) (now (arena .entry)) (now (table .entry)) (now (bits .entry)) (now (roots .exit)) ⌝ }
+    ensures { λ r. ⌜ Exported
+        (run (lent p (now (arena .entry)) (now (table .entry)) (now (bits .entry)) (now (roots .entry))) (Close s)) r
+        (now (out .entry)) (now (out .exit))
+        (now (arena .entry)) (now (table .entry)) (now (bits .entry)) (now (roots .exit)) ⌝ }
 {
     let answer = heap::close(p, arena, table, bits, roots, s);
     write_answer(answer, out)
@@ -115,7 +128,11 @@ pub extern "C" fn heap_alloc(
     pointers: u64,
     out: &mut [u64; 3],
 ) -> u64
-    ensures { λ r. ⌜ Exported (run (lent p (now (arena .entry)) (now (table .entry)) (now (bits .entry)) (now (roots .entry))) (Allocate s i size pointers)) r (now (out .entry)) (now (out .exit)) (now (arena .exit)) (now (table .exit)) (now (bits .exit)) (now (roots .exit)) ⌝ }
+    ensures { λ r. ⌜ Exported
+        (run (lent p (now (arena .entry)) (now (table .entry)) (now (bits .entry)) (now (roots .entry)))
+        (Allocate s i size pointers)) r
+        (now (out .entry)) (now (out .exit))
+        (now (arena .exit)) (now (table .exit)) (now (bits .exit)) (now (roots .exit)) ⌝ }
 {
     let answer = heap::alloc(p, arena, table, bits, roots, s, i, size, pointers);
     write_answer(answer, out)
@@ -133,7 +150,10 @@ pub extern "C" fn heap_copy(
     j: u64,
     out: &mut [u64; 3],
 ) -> u64
-    ensures { λ r. ⌜ Exported (run (lent p (now (arena .entry)) (now (table .entry)) (now (bits .entry)) (now (roots .entry))) (Copy s i j)) r (now (out .entry)) (now (out .exit)) (now (arena .entry)) (now (table .entry)) (now (bits .entry)) (now (roots .exit)) ⌝ }
+    ensures { λ r. ⌜ Exported
+        (run (lent p (now (arena .entry)) (now (table .entry)) (now (bits .entry)) (now (roots .entry))) (Copy s i j)) r
+        (now (out .entry)) (now (out .exit))
+        (now (arena .entry)) (now (table .entry)) (now (bits .entry)) (now (roots .exit)) ⌝ }
 {
     let answer = heap::copy(p, arena, table, bits, roots, s, i, j);
     write_answer(answer, out)
@@ -150,7 +170,10 @@ pub extern "C" fn heap_clear(
     i: u64,
     out: &mut [u64; 3],
 ) -> u64
-    ensures { λ r. ⌜ Exported (run (lent p (now (arena .entry)) (now (table .entry)) (now (bits .entry)) (now (roots .entry))) (Clear s i)) r (now (out .entry)) (now (out .exit)) (now (arena .entry)) (now (table .entry)) (now (bits .entry)) (now (roots .exit)) ⌝ }
+    ensures { λ r. ⌜ Exported
+        (run (lent p (now (arena .entry)) (now (table .entry)) (now (bits .entry)) (now (roots .entry))) (Clear s i)) r
+        (now (out .entry)) (now (out .exit))
+        (now (arena .entry)) (now (table .entry)) (now (bits .entry)) (now (roots .exit)) ⌝ }
 {
     let answer = heap::clear(p, arena, table, bits, roots, s, i);
     write_answer(answer, out)
@@ -169,7 +192,11 @@ pub extern "C" fn heap_load(
     f: u64,
     out: &mut [u64; 3],
 ) -> u64
-    ensures { λ r. ⌜ Exported (run (lent p (now (arena .entry)) (now (table .entry)) (now (bits .entry)) (now (roots .entry))) (Load s i j f)) r (now (out .entry)) (now (out .exit)) (now (arena .entry)) (now (table .entry)) (now (bits .entry)) (now (roots .exit)) ⌝ }
+    ensures { λ r. ⌜ Exported
+        (run (lent p (now (arena .entry)) (now (table .entry)) (now (bits .entry)) (now (roots .entry)))
+        (Load s i j f)) r
+        (now (out .entry)) (now (out .exit))
+        (now (arena .entry)) (now (table .entry)) (now (bits .entry)) (now (roots .exit)) ⌝ }
 {
     let answer = heap::load(p, arena, table, bits, roots, s, i, j, f);
     write_answer(answer, out)
@@ -188,7 +215,11 @@ pub extern "C" fn heap_store(
     k: u64,
     out: &mut [u64; 3],
 ) -> u64
-    ensures { λ r. ⌜ Exported (run (lent p (now (arena .entry)) (now (table .entry)) (now (bits .entry)) (now (roots .entry))) (Store s j f k)) r (now (out .entry)) (now (out .exit)) (now (arena .exit)) (now (table .entry)) (now (bits .exit)) (now (roots .entry)) ⌝ }
+    ensures { λ r. ⌜ Exported
+        (run (lent p (now (arena .entry)) (now (table .entry)) (now (bits .entry)) (now (roots .entry)))
+        (Store s j f k)) r
+        (now (out .entry)) (now (out .exit))
+        (now (arena .exit)) (now (table .entry)) (now (bits .exit)) (now (roots .entry)) ⌝ }
 {
     let answer = heap::store(p, arena, table, bits, roots, s, j, f, k);
     write_answer(answer, out)
@@ -207,7 +238,11 @@ pub extern "C" fn heap_put(
     v: u64,
     out: &mut [u64; 3],
 ) -> u64
-    ensures { λ r. ⌜ Exported (run (lent p (now (arena .entry)) (now (table .entry)) (now (bits .entry)) (now (roots .entry))) (Put s j f v)) r (now (out .entry)) (now (out .exit)) (now (arena .exit)) (now (table .entry)) (now (bits .entry)) (now (roots .entry)) ⌝ }
+    ensures { λ r. ⌜ Exported
+        (run (lent p (now (arena .entry)) (now (table .entry)) (now (bits .entry)) (now (roots .entry)))
+        (Put s j f v)) r
+        (now (out .entry)) (now (out .exit))
+        (now (arena .exit)) (now (table .entry)) (now (bits .entry)) (now (roots .entry)) ⌝ }
 {
     let answer = heap::put(p, arena, table, bits, roots, s, j, f, v);
     write_answer(answer, out)
@@ -225,7 +260,10 @@ pub extern "C" fn heap_get(
     f: u64,
     out: &mut [u64; 3],
 ) -> u64
-    ensures { λ r. ⌜ Exported (run (lent p (now (arena .entry)) (now (table .entry)) (now (bits .entry)) (now (roots .entry))) (Get s j f)) r (now (out .entry)) (now (out .exit)) (now (arena .entry)) (now (table .entry)) (now (bits .entry)) (now (roots .entry)) ⌝ }
+    ensures { λ r. ⌜ Exported
+        (run (lent p (now (arena .entry)) (now (table .entry)) (now (bits .entry)) (now (roots .entry))) (Get s j f)) r
+        (now (out .entry)) (now (out .exit))
+        (now (arena .entry)) (now (table .entry)) (now (bits .entry)) (now (roots .entry)) ⌝ }
 {
     let answer = heap::get(p, arena, table, bits, roots, s, j, f);
     write_answer(answer, out)
@@ -243,7 +281,11 @@ pub extern "C" fn heap_load_global(
     g: u64,
     out: &mut [u64; 3],
 ) -> u64
-    ensures { λ r. ⌜ Exported (run (lent p (now (arena .entry)) (now (table .entry)) (now (bits .entry)) (now (roots .entry))) (LoadGlobal s i g)) r (now (out .entry)) (now (out .exit)) (now (arena .entry)) (now (table .entry)) (now (bits .entry)) (now (roots .exit)) ⌝ }
+    ensures { λ r. ⌜ Exported
+        (run (lent p (now (arena .entry)) (now (table .entry)) (now (bits .entry)) (now (roots .entry)))
+        (LoadGlobal s i g)) r
+        (now (out .entry)) (now (out .exit))
+        (now (arena .entry)) (now (table .entry)) (now (bits .entry)) (now (roots .exit)) ⌝ }
 {
     let answer = heap::load_global(p, arena, table, bits, roots, s, i, g);
     write_answer(answer, out)
@@ -261,7 +303,11 @@ pub extern "C" fn heap_store_global(
     i: u64,
     out: &mut [u64; 3],
 ) -> u64
-    ensures { λ r. ⌜ Exported (run (lent p (now (arena .entry)) (now (table .entry)) (now (bits .entry)) (now (roots .entry))) (StoreGlobal s g i)) r (now (out .entry)) (now (out .exit)) (now (arena .entry)) (now (table .entry)) (now (bits .exit)) (now (roots .exit)) ⌝ }
+    ensures { λ r. ⌜ Exported
+        (run (lent p (now (arena .entry)) (now (table .entry)) (now (bits .entry)) (now (roots .entry)))
+        (StoreGlobal s g i)) r
+        (now (out .entry)) (now (out .exit))
+        (now (arena .entry)) (now (table .entry)) (now (bits .exit)) (now (roots .exit)) ⌝ }
 {
     let answer = heap::store_global(p, arena, table, bits, roots, s, g, i);
     write_answer(answer, out)
@@ -276,7 +322,10 @@ pub extern "C" fn heap_start(
     roots: &mut [u64],
     out: &mut [u64; 3],
 ) -> u64
-    ensures { λ r. ⌜ Exported (run (lent p (now (arena .entry)) (now (table .entry)) (now (bits .entry)) (now (roots .entry))) Start) r (now (out .entry)) (now (out .exit)) (now (arena .entry)) (now (table .entry)) (now (bits .entry)) (now (roots .exit)) ⌝ }
+    ensures { λ r. ⌜ Exported
+        (run (lent p (now (arena .entry)) (now (table .entry)) (now (bits .entry)) (now (roots .entry))) Start) r
+        (now (out .entry)) (now (out .exit))
+        (now (arena .entry)) (now (table .entry)) (now (bits .entry)) (now (roots .exit)) ⌝ }
 {
     let answer = heap::start(p, arena, table, bits, roots);
     write_answer(answer, out)
@@ -292,7 +341,11 @@ pub extern "C" fn heap_scan_stack(
     s: u64,
     out: &mut [u64; 3],
 ) -> u64
-    ensures { λ r. ⌜ Exported (run (lent p (now (arena .entry)) (now (table .entry)) (now (bits .entry)) (now (roots .entry))) (ScanStack s)) r (now (out .entry)) (now (out .exit)) (now (arena .entry)) (now (table .entry)) (now (bits .exit)) (now (roots .exit)) ⌝ }
+    ensures { λ r. ⌜ Exported
+        (run (lent p (now (arena .entry)) (now (table .entry)) (now (bits .entry)) (now (roots .entry)))
+        (ScanStack s)) r
+        (now (out .entry)) (now (out .exit))
+        (now (arena .entry)) (now (table .entry)) (now (bits .exit)) (now (roots .exit)) ⌝ }
 {
     let answer = heap::scan_stack(p, arena, table, bits, roots, s);
     write_answer(answer, out)
@@ -307,7 +360,10 @@ pub extern "C" fn heap_scan_globals(
     roots: &mut [u64],
     out: &mut [u64; 3],
 ) -> u64
-    ensures { λ r. ⌜ Exported (run (lent p (now (arena .entry)) (now (table .entry)) (now (bits .entry)) (now (roots .entry))) ScanGlobals) r (now (out .entry)) (now (out .exit)) (now (arena .entry)) (now (table .entry)) (now (bits .exit)) (now (roots .exit)) ⌝ }
+    ensures { λ r. ⌜ Exported
+        (run (lent p (now (arena .entry)) (now (table .entry)) (now (bits .entry)) (now (roots .entry))) ScanGlobals) r
+        (now (out .entry)) (now (out .exit))
+        (now (arena .entry)) (now (table .entry)) (now (bits .exit)) (now (roots .exit)) ⌝ }
 {
     let answer = heap::scan_globals(p, arena, table, bits, roots);
     write_answer(answer, out)
@@ -322,7 +378,10 @@ pub extern "C" fn heap_mark_step(
     roots: &[u64],
     out: &mut [u64; 3],
 ) -> u64
-    ensures { λ r. ⌜ Exported (run (lent p (now (arena .entry)) (now (table .entry)) (now (bits .entry)) (now (roots .entry))) MarkStep) r (now (out .entry)) (now (out .exit)) (now (arena .entry)) (now (table .entry)) (now (bits .exit)) (now (roots .entry)) ⌝ }
+    ensures { λ r. ⌜ Exported
+        (run (lent p (now (arena .entry)) (now (table .entry)) (now (bits .entry)) (now (roots .entry))) MarkStep) r
+        (now (out .entry)) (now (out .exit))
+        (now (arena .entry)) (now (table .entry)) (now (bits .exit)) (now (roots .entry)) ⌝ }
 {
     let answer = heap::mark_step(p, arena, table, bits, roots);
     write_answer(answer, out)
@@ -337,7 +396,10 @@ pub extern "C" fn heap_finish(
     roots: &mut [u64],
     out: &mut [u64; 3],
 ) -> u64
-    ensures { λ r. ⌜ Exported (run (lent p (now (arena .entry)) (now (table .entry)) (now (bits .entry)) (now (roots .entry))) Finish) r (now (out .entry)) (now (out .exit)) (now (arena .entry)) (now (table .exit)) (now (bits .entry)) (now (roots .exit)) ⌝ }
+    ensures { λ r. ⌜ Exported
+        (run (lent p (now (arena .entry)) (now (table .entry)) (now (bits .entry)) (now (roots .entry))) Finish) r
+        (now (out .entry)) (now (out .exit))
+        (now (arena .entry)) (now (table .exit)) (now (bits .entry)) (now (roots .exit)) ⌝ }
 {
     let answer = heap::finish(p, arena, table, bits, roots);
     write_answer(answer, out)
@@ -352,7 +414,10 @@ pub extern "C" fn heap_sweep_step(
     roots: &mut [u64],
     out: &mut [u64; 3],
 ) -> u64
-    ensures { λ r. ⌜ Exported (run (lent p (now (arena .entry)) (now (table .entry)) (now (bits .entry)) (now (roots .entry))) SweepStep) r (now (out .entry)) (now (out .exit)) (now (arena .entry)) (now (table .exit)) (now (bits .exit)) (now (roots .exit)) ⌝ }
+    ensures { λ r. ⌜ Exported
+        (run (lent p (now (arena .entry)) (now (table .entry)) (now (bits .entry)) (now (roots .entry))) SweepStep) r
+        (now (out .entry)) (now (out .exit))
+        (now (arena .entry)) (now (table .exit)) (now (bits .exit)) (now (roots .exit)) ⌝ }
 {
     let answer = heap::sweep_step(p, arena, table, bits, roots);
     write_answer(answer, out)

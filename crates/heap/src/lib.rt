@@ -33,7 +33,9 @@ pub fn setup(
     bits: &mut [u64],
     roots: &mut [u64],
 ) -> Answer
-    ensures { λ r. ⌜ Meets (run (lent p (now (arena .entry)) (now (table .entry)) (now (bits .entry)) (now (roots .entry))) Setup) r (now (arena .entry)) (now (table .exit)) (now (bits .exit)) (now (roots .exit)) ⌝ }
+    ensures { λ r. ⌜ Meets
+        (run (lent p (now (arena .entry)) (now (table .entry)) (now (bits .entry)) (now (roots .entry))) Setup) r
+        (now (arena .entry)) (now (table .exit)) (now (bits .exit)) (now (roots .exit)) ⌝ }
 {
     if !audit::buffers_ok(p, arena, table, bits, roots) {
         return Answer::Refused(units::BAD_BUFFERS);
@@ -47,7 +49,9 @@ pub fn setup(
 
 // Accepted where the buffers hold a heap.
 pub fn audit(p: u64, arena: &[u64], table: &[u32], bits: &[u64], roots: &[u64]) -> Answer
-    ensures { λ r. ⌜ Meets (run (lent p (now (arena .entry)) (now (table .entry)) (now (bits .entry)) (now (roots .entry))) Audit) r (now (arena .entry)) (now (table .entry)) (now (bits .entry)) (now (roots .entry)) ⌝ }
+    ensures { λ r. ⌜ Meets
+        (run (lent p (now (arena .entry)) (now (table .entry)) (now (bits .entry)) (now (roots .entry))) Audit) r
+        (now (arena .entry)) (now (table .entry)) (now (bits .entry)) (now (roots .entry)) ⌝ }
 {
     let refusal = audit::entry(p, arena, table, bits, roots);
     if refusal != 0 {

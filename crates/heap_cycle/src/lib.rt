@@ -7,7 +7,9 @@ use model::Answer;
 
 // Start a cycle: every open stack and the globals become gray.
 pub fn start(p: u64, arena: &[u64], table: &[u32], bits: &[u64], roots: &mut [u64]) -> Answer
-    ensures { λ r. ⌜ Meets (run (lent p (now (arena .entry)) (now (table .entry)) (now (bits .entry)) (now (roots .entry))) Start) r (now (arena .entry)) (now (table .entry)) (now (bits .entry)) (now (roots .exit)) ⌝ }
+    ensures { λ r. ⌜ Meets
+        (run (lent p (now (arena .entry)) (now (table .entry)) (now (bits .entry)) (now (roots .entry))) Start) r
+        (now (arena .entry)) (now (table .entry)) (now (bits .entry)) (now (roots .exit)) ⌝ }
 {
     let refusal = audit::entry(p, arena, table, bits, roots);
     if refusal != 0 {
@@ -25,7 +27,10 @@ pub fn scan_stack(
     roots: &mut [u64],
     s: u64,
 ) -> Answer
-    ensures { λ r. ⌜ Meets (run (lent p (now (arena .entry)) (now (table .entry)) (now (bits .entry)) (now (roots .entry))) (ScanStack s)) r (now (arena .entry)) (now (table .entry)) (now (bits .exit)) (now (roots .exit)) ⌝ }
+    ensures { λ r. ⌜ Meets
+        (run (lent p (now (arena .entry)) (now (table .entry)) (now (bits .entry)) (now (roots .entry)))
+        (ScanStack s)) r
+        (now (arena .entry)) (now (table .entry)) (now (bits .exit)) (now (roots .exit)) ⌝ }
 {
     let refusal = audit::entry(p, arena, table, bits, roots);
     if refusal != 0 {
@@ -42,7 +47,9 @@ pub fn scan_globals(
     bits: &mut [u64],
     roots: &mut [u64],
 ) -> Answer
-    ensures { λ r. ⌜ Meets (run (lent p (now (arena .entry)) (now (table .entry)) (now (bits .entry)) (now (roots .entry))) ScanGlobals) r (now (arena .entry)) (now (table .entry)) (now (bits .exit)) (now (roots .exit)) ⌝ }
+    ensures { λ r. ⌜ Meets
+        (run (lent p (now (arena .entry)) (now (table .entry)) (now (bits .entry)) (now (roots .entry))) ScanGlobals) r
+        (now (arena .entry)) (now (table .entry)) (now (bits .exit)) (now (roots .exit)) ⌝ }
 {
     let refusal = audit::entry(p, arena, table, bits, roots);
     if refusal != 0 {
@@ -53,7 +60,9 @@ pub fn scan_globals(
 
 // Shade the pointer words of the gray record with the lowest address.
 pub fn mark_step(p: u64, arena: &[u64], table: &[u32], bits: &mut [u64], roots: &[u64]) -> Answer
-    ensures { λ r. ⌜ Meets (run (lent p (now (arena .entry)) (now (table .entry)) (now (bits .entry)) (now (roots .entry))) MarkStep) r (now (arena .entry)) (now (table .entry)) (now (bits .exit)) (now (roots .entry)) ⌝ }
+    ensures { λ r. ⌜ Meets
+        (run (lent p (now (arena .entry)) (now (table .entry)) (now (bits .entry)) (now (roots .entry))) MarkStep) r
+        (now (arena .entry)) (now (table .entry)) (now (bits .exit)) (now (roots .entry)) ⌝ }
 {
     let refusal = audit::entry(p, arena, table, bits, roots);
     if refusal != 0 {
@@ -64,7 +73,9 @@ pub fn mark_step(p: u64, arena: &[u64], table: &[u32], bits: &mut [u64], roots: 
 
 // Finish marking: every span becomes unswept.
 pub fn finish(p: u64, arena: &[u64], table: &mut [u32], bits: &[u64], roots: &mut [u64]) -> Answer
-    ensures { λ r. ⌜ Meets (run (lent p (now (arena .entry)) (now (table .entry)) (now (bits .entry)) (now (roots .entry))) Finish) r (now (arena .entry)) (now (table .exit)) (now (bits .entry)) (now (roots .exit)) ⌝ }
+    ensures { λ r. ⌜ Meets
+        (run (lent p (now (arena .entry)) (now (table .entry)) (now (bits .entry)) (now (roots .entry))) Finish) r
+        (now (arena .entry)) (now (table .exit)) (now (bits .entry)) (now (roots .exit)) ⌝ }
 {
     let refusal = audit::entry(p, arena, table, bits, roots);
     if refusal != 0 {
@@ -81,7 +92,9 @@ pub fn sweep_step(
     bits: &mut [u64],
     roots: &mut [u64],
 ) -> Answer
-    ensures { λ r. ⌜ Meets (run (lent p (now (arena .entry)) (now (table .entry)) (now (bits .entry)) (now (roots .entry))) SweepStep) r (now (arena .entry)) (now (table .exit)) (now (bits .exit)) (now (roots .exit)) ⌝ }
+    ensures { λ r. ⌜ Meets
+        (run (lent p (now (arena .entry)) (now (table .entry)) (now (bits .entry)) (now (roots .entry))) SweepStep) r
+        (now (arena .entry)) (now (table .exit)) (now (bits .exit)) (now (roots .exit)) ⌝ }
 {
     let refusal = audit::entry(p, arena, table, bits, roots);
     if refusal != 0 {

@@ -18,7 +18,10 @@ pub fn alloc(
     size: u64,
     pointers: u64,
 ) -> Answer
-    ensures { λ r. ⌜ Meets (run (lent p (now (arena .entry)) (now (table .entry)) (now (bits .entry)) (now (roots .entry))) (Allocate s i size pointers)) r (now (arena .exit)) (now (table .exit)) (now (bits .exit)) (now (roots .exit)) ⌝ }
+    ensures { λ r. ⌜ Meets
+        (run (lent p (now (arena .entry)) (now (table .entry)) (now (bits .entry)) (now (roots .entry)))
+        (Allocate s i size pointers)) r
+        (now (arena .exit)) (now (table .exit)) (now (bits .exit)) (now (roots .exit)) ⌝ }
 {
     let refusal = audit::entry(p, arena, table, bits, roots);
     if refusal != 0 {
@@ -39,7 +42,10 @@ pub fn load(
     j: u64,
     f: u64,
 ) -> Answer
-    ensures { λ r. ⌜ Meets (run (lent p (now (arena .entry)) (now (table .entry)) (now (bits .entry)) (now (roots .entry))) (Load s i j f)) r (now (arena .entry)) (now (table .entry)) (now (bits .entry)) (now (roots .exit)) ⌝ }
+    ensures { λ r. ⌜ Meets
+        (run (lent p (now (arena .entry)) (now (table .entry)) (now (bits .entry)) (now (roots .entry)))
+        (Load s i j f)) r
+        (now (arena .entry)) (now (table .entry)) (now (bits .entry)) (now (roots .exit)) ⌝ }
 {
     let refusal = audit::entry(p, arena, table, bits, roots);
     if refusal != 0 {
@@ -60,7 +66,10 @@ pub fn store(
     f: u64,
     k: u64,
 ) -> Answer
-    ensures { λ r. ⌜ Meets (run (lent p (now (arena .entry)) (now (table .entry)) (now (bits .entry)) (now (roots .entry))) (Store s j f k)) r (now (arena .exit)) (now (table .entry)) (now (bits .exit)) (now (roots .entry)) ⌝ }
+    ensures { λ r. ⌜ Meets
+        (run (lent p (now (arena .entry)) (now (table .entry)) (now (bits .entry)) (now (roots .entry)))
+        (Store s j f k)) r
+        (now (arena .exit)) (now (table .entry)) (now (bits .exit)) (now (roots .entry)) ⌝ }
 {
     let refusal = audit::entry(p, arena, table, bits, roots);
     if refusal != 0 {
@@ -81,7 +90,10 @@ pub fn put(
     f: u64,
     v: u64,
 ) -> Answer
-    ensures { λ r. ⌜ Meets (run (lent p (now (arena .entry)) (now (table .entry)) (now (bits .entry)) (now (roots .entry))) (Put s j f v)) r (now (arena .exit)) (now (table .entry)) (now (bits .entry)) (now (roots .entry)) ⌝ }
+    ensures { λ r. ⌜ Meets
+        (run (lent p (now (arena .entry)) (now (table .entry)) (now (bits .entry)) (now (roots .entry)))
+        (Put s j f v)) r
+        (now (arena .exit)) (now (table .entry)) (now (bits .entry)) (now (roots .entry)) ⌝ }
 {
     let refusal = audit::entry(p, arena, table, bits, roots);
     if refusal != 0 {
@@ -101,7 +113,9 @@ pub fn get(
     j: u64,
     f: u64,
 ) -> Answer
-    ensures { λ r. ⌜ Meets (run (lent p (now (arena .entry)) (now (table .entry)) (now (bits .entry)) (now (roots .entry))) (Get s j f)) r (now (arena .entry)) (now (table .entry)) (now (bits .entry)) (now (roots .entry)) ⌝ }
+    ensures { λ r. ⌜ Meets
+        (run (lent p (now (arena .entry)) (now (table .entry)) (now (bits .entry)) (now (roots .entry))) (Get s j f)) r
+        (now (arena .entry)) (now (table .entry)) (now (bits .entry)) (now (roots .entry)) ⌝ }
 {
     let refusal = audit::entry(p, arena, table, bits, roots);
     if refusal != 0 {
@@ -121,7 +135,10 @@ pub fn store_global(
     g: u64,
     i: u64,
 ) -> Answer
-    ensures { λ r. ⌜ Meets (run (lent p (now (arena .entry)) (now (table .entry)) (now (bits .entry)) (now (roots .entry))) (StoreGlobal s g i)) r (now (arena .entry)) (now (table .entry)) (now (bits .exit)) (now (roots .exit)) ⌝ }
+    ensures { λ r. ⌜ Meets
+        (run (lent p (now (arena .entry)) (now (table .entry)) (now (bits .entry)) (now (roots .entry)))
+        (StoreGlobal s g i)) r
+        (now (arena .entry)) (now (table .entry)) (now (bits .exit)) (now (roots .exit)) ⌝ }
 {
     let refusal = audit::entry(p, arena, table, bits, roots);
     if refusal != 0 {

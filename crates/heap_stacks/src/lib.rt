@@ -8,7 +8,9 @@ use model::Answer;
 
 // Open stack s, with all its slots nil.
 pub fn open(p: u64, arena: &[u64], table: &[u32], bits: &[u64], roots: &mut [u64], s: u64) -> Answer
-    ensures { λ r. ⌜ Meets (run (lent p (now (arena .entry)) (now (table .entry)) (now (bits .entry)) (now (roots .entry))) (Open s)) r (now (arena .entry)) (now (table .entry)) (now (bits .entry)) (now (roots .exit)) ⌝ }
+    ensures { λ r. ⌜ Meets
+        (run (lent p (now (arena .entry)) (now (table .entry)) (now (bits .entry)) (now (roots .entry))) (Open s)) r
+        (now (arena .entry)) (now (table .entry)) (now (bits .entry)) (now (roots .exit)) ⌝ }
 {
     let refusal = audit::entry(p, arena, table, bits, roots);
     if refusal != 0 {
@@ -26,7 +28,9 @@ pub fn close(
     roots: &mut [u64],
     s: u64,
 ) -> Answer
-    ensures { λ r. ⌜ Meets (run (lent p (now (arena .entry)) (now (table .entry)) (now (bits .entry)) (now (roots .entry))) (Close s)) r (now (arena .entry)) (now (table .entry)) (now (bits .entry)) (now (roots .exit)) ⌝ }
+    ensures { λ r. ⌜ Meets
+        (run (lent p (now (arena .entry)) (now (table .entry)) (now (bits .entry)) (now (roots .entry))) (Close s)) r
+        (now (arena .entry)) (now (table .entry)) (now (bits .entry)) (now (roots .exit)) ⌝ }
 {
     let refusal = audit::entry(p, arena, table, bits, roots);
     if refusal != 0 {
@@ -46,7 +50,9 @@ pub fn copy(
     i: u64,
     j: u64,
 ) -> Answer
-    ensures { λ r. ⌜ Meets (run (lent p (now (arena .entry)) (now (table .entry)) (now (bits .entry)) (now (roots .entry))) (Copy s i j)) r (now (arena .entry)) (now (table .entry)) (now (bits .entry)) (now (roots .exit)) ⌝ }
+    ensures { λ r. ⌜ Meets
+        (run (lent p (now (arena .entry)) (now (table .entry)) (now (bits .entry)) (now (roots .entry))) (Copy s i j)) r
+        (now (arena .entry)) (now (table .entry)) (now (bits .entry)) (now (roots .exit)) ⌝ }
 {
     let refusal = audit::entry(p, arena, table, bits, roots);
     if refusal != 0 {
@@ -65,7 +71,9 @@ pub fn clear(
     s: u64,
     i: u64,
 ) -> Answer
-    ensures { λ r. ⌜ Meets (run (lent p (now (arena .entry)) (now (table .entry)) (now (bits .entry)) (now (roots .entry))) (Clear s i)) r (now (arena .entry)) (now (table .entry)) (now (bits .entry)) (now (roots .exit)) ⌝ }
+    ensures { λ r. ⌜ Meets
+        (run (lent p (now (arena .entry)) (now (table .entry)) (now (bits .entry)) (now (roots .entry))) (Clear s i)) r
+        (now (arena .entry)) (now (table .entry)) (now (bits .entry)) (now (roots .exit)) ⌝ }
 {
     let refusal = audit::entry(p, arena, table, bits, roots);
     if refusal != 0 {
@@ -85,7 +93,10 @@ pub fn load_global(
     i: u64,
     g: u64,
 ) -> Answer
-    ensures { λ r. ⌜ Meets (run (lent p (now (arena .entry)) (now (table .entry)) (now (bits .entry)) (now (roots .entry))) (LoadGlobal s i g)) r (now (arena .entry)) (now (table .entry)) (now (bits .entry)) (now (roots .exit)) ⌝ }
+    ensures { λ r. ⌜ Meets
+        (run (lent p (now (arena .entry)) (now (table .entry)) (now (bits .entry)) (now (roots .entry)))
+        (LoadGlobal s i g)) r
+        (now (arena .entry)) (now (table .entry)) (now (bits .entry)) (now (roots .exit)) ⌝ }
 {
     let refusal = audit::entry(p, arena, table, bits, roots);
     if refusal != 0 {

@@ -1,6 +1,6 @@
 -- DEMAND 3, proved: the claim of specs/Demand.antt, of every list of requests after an accepted setup.
 use Prim.Native.Nat.{ℕ, zero, suc, _+_, _-_, _≤_, _<_}
-use mathlib.Core.Bool.{Bool, true, false, not, _&&_}
+use mathlib.Core.Bool.{Bool, true, false, _&&_}
 use mathlib.Core.List.{List, [], _∷_, _++_, map, append-assoc}
 use mathlib.Core.Logic.{_≢_}
 use mathlib.Core.Path.{_≡_, refl, ap, sym, _∙_, subst}
@@ -90,7 +90,7 @@ answered (Event.writes (Write.allocate s i p n b)) a h L g M = g ∙ ap Value (M
 answered (Event.get s j f) a h L g M = g ∙ ap Value (M .got s j f refl)
 answered (Event.scanStack s) a h L g M = tt
 answered Event.scanGlobals a h L g M = tt
-answered (Event.does c) a h L g M = tt
+answered (Event.acts c) a h L g M = tt
 
 -- an allocated record, seen in the view
 seen-allocated : (L : Ledger) (h : Heap) (x : ℕ) → T (isAllocated L h x) → T (Claim.isAllocated L (view h) x)

@@ -139,7 +139,7 @@ subject (Event.writes (Write.allocate s i p n a)) = Subject.inSlot s i
 subject (Event.get s j f) = Subject.inWord s j f
 subject (Event.scanStack s) = Subject.nothing
 subject Event.scanGlobals = Subject.nothing
-subject (Event.does c) = Subject.nothing
+subject (Event.acts c) = Subject.nothing
 
 -- "Each accepted call that sets a slot answered the ledger's new value of it, and get that of its word.": L is the ledger after the call
 abbrev pub Answered : Subject → Answer → Ledger → Type 0

@@ -9,7 +9,7 @@ use native.Mathlib.Nat.{zero-div}
 use lib.ListN.{getD, set, length-set, replicate, length-replicate, getD-replicate, List·getD-eq-default}
 use lib.Dec.{T, eqb, ltb}
 use borrow.Author.Tests.{ltb-true, ltb-false, ne-eqb}
-use Rattle.model.specs.Memory.{Heap, pageWords, entryNumbers, bitmapWords, wordBits, rootWords, slotCount, firstState, globalsStateAt, phaseAt, openState}
+use Rattle.model.specs.Memory.{Heap, pageWords, entryNumbers, countOffset, kindOffset, bitmapWords, wordBits, rootWords, slotCount, firstState, globalsStateAt, phaseAt, openState}
 use Rattle.model.specs.Bitmaps.{Part, allocated, marked, gray, pointer, bitIn, bitAt, bitOf, place}
 use Rattle.model.specs.Spans.{owner, pageCount, kindEntry}
 use Rattle.model.specs.Records.{fresh}
@@ -53,7 +53,7 @@ fresh-kept h Z = record {
     whose = λ g y. absurd (omega (arith, zero-at (entryNumbers * h .pages) (entryNumbers * g)));
     body = λ s g e. absurd (omega (arith, zero-at (entryNumbers * h .pages) (entryNumbers * s)));
     inside = λ s e. absurd (omega (arith, zero-at (entryNumbers * h .pages) (entryNumbers * s)));
-    rest = λ g d. (zero-at (entryNumbers * h .pages) (entryNumbers * g + 1), zero-at (entryNumbers * h .pages) (entryNumbers * g + 2));
+    rest = λ g d. (zero-at (entryNumbers * h .pages) (entryNumbers * g + countOffset), zero-at (entryNumbers * h .pages) (entryNumbers * g + kindOffset));
     entry = λ s e. absurd (omega (arith, zero-at (entryNumbers * h .pages) (entryNumbers * s)));
   };
   bits = record {

@@ -5,7 +5,7 @@ use mathlib.Core.Bool.{Bool, true, false, not, cond, _&&_}
 use Prim.Native.Nat.{ℕ, suc, _+_, _≤_, _<_}
 use native.Mathlib.Omega.{arith}
 use lib.Dec.{T}
-use Rattle.marking.proofs.Updates.{contradicts, and-both, and-left, and-right}
+use Rattle.marking.proofs.Updates.{contradicts, and-both, and-left, and-right, and-fails}
 use Rattle.marking.specs.Effect.{asNumber}
 use Rattle.model.proofs.Bounded
 use Rattle.marking.specs.Count.{count}
@@ -112,17 +112,13 @@ sweep-advance {H} {H′} {L} {S} {Y} R (Trace.sweepStep q E A p d c) w a u n = g
         (and-both (H .allocated v) _ (before (q v) (H .bits .marked v) (H .allocated v) (and-left (G .allocated v) _ i) (A .markedAllocated v)) (and-right (G .allocated v) _ i))
         (still (q v) (H .unswept v) (and-right (isAllocated L G x) _ t))
 
-    no : (b o : Bool) → T (not o) → T (not (b && o))
-    no true o t = t
-    no false o t = tt
-
     go : (x : ℕ) × Live (S .allocated) x × (Y .at x ≡ w) →
         count (λ x. isAllocated L G x && G .unswept (wordOf (L .address x))) (suc (L .count)) < count (λ x. isAllocated L H x && H .unswept (wordOf (L .address x))) (suc (L .count))
     go r =
         let b = R .invariant .allocatedBorn (r .0) (r .1 .1) in
         let e : wordOf (L .address (r .0)) ≡ w = at-is R (r .0) (r .1) ∙ r .2 in
         count-lt (λ x. isAllocated L G x && G .unswept (wordOf (L .address x))) (λ x. isAllocated L H x && H .unswept (wordOf (L .address x))) (suc (L .count)) (r .0) (r .1 .0) (omega (arith, R .describes .born))
-        (no (isAllocated L G (r .0)) (G .unswept (wordOf (L .address (r .0)))) (rw e n))
+        (and-fails (isAllocated L G (r .0)) (G .unswept (wordOf (L .address (r .0)))) (rw e n))
         (and-both (isAllocated L H (r .0)) _ (rw (isAllocated-is R (r .0) (r .1 .0) b) (r .1 .1)) (rw e u)) (λ x _ _. was x)
 
 -- THE THEOREM, of a heap that agrees with a ledger

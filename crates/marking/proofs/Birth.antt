@@ -14,7 +14,7 @@ use Rattle.marking.proofs.Operations.{State, allocate, perform}
 use Rattle.marking.specs.WordHeap.{marking, Elements, WordHeap, LegalColours, Alike, heapAllocate}
 use Rattle.marking.proofs.Safety.{Invariant}
 use Rattle.model.specs.Memory.{addressOf}
-use Rattle.marking.proofs.Represents.{Layout, address, Live, Placed, SameColours, SameWords, Represents, address-nil, address-live}
+use Rattle.marking.proofs.Represents.{Layout, address, Live, Placed, SameColours, SameWords, Represents, address-nil, address-live, starts-elsewhere}
 
 unfoldable pub placeRecord : ℕ → ℕ → ℕ → Layout → Layout
 placeRecord x w n Y = record { at = update (Y .at) x w; words = update (Y .words) x n }
@@ -156,20 +156,19 @@ module _ {H : WordHeap} {Y : Layout} {numbers : ℕ → ℕ → ℕ} {S : State}
           let s′ = rw (size-old x (off-b x k)) at s in
           rw (at-old x (off-b x k), update-other numbers (S .graph .born) (λ (k : ℕ). 0) x (off-b x k), outside x f s′ (free x k)) (Z .words .number x f k h′ s′)
 
-  not-w : (x : ℕ) → Live (S .allocated) x → ((Y .at x + Y .words x ≤ w) ⊎ (w + n ≤ Y .at x)) → Y .at x ≢ w
-  not-w x l (inl h) = omega (arith, Z .placed .fits x l)
-  not-w x l (inr h) = omega arith
+  not-w : (x : ℕ) → Live (S .allocated) x → Y .at x ≢ w
+  not-w x l = starts-elsewhere (Z .placed) w n x (big .1) l (free x l)
 
   marked-old : (b : Bool) (x : ℕ) → Live (S .allocated) x →
       (cond b (update (H .bits .marked) w true) (H .bits .marked)) (Y .at x) ≡ H .bits .marked (Y .at x)
-  marked-old true x l = update-other (H .bits .marked) w true (Y .at x) (not-w x l (free x l))
+  marked-old true x l = update-other (H .bits .marked) w true (Y .at x) (not-w x l)
   marked-old false x l = refl
 
   no-gray : H .bits .gray w ≡ false
   no-gray = go (test (H .bits .gray w))
     where
       bad : ((x : ℕ) × Live (S .allocated) x × (Y .at x ≡ w)) → ⊥
-      bad r = not-w (r .0) (r .1) (free (r .0) (r .1)) (r .2)
+      bad r = not-w (r .0) (r .1) (r .2)
 
       go : (T (H .bits .gray w) ⊎ T (not (H .bits .gray w))) → H .bits .gray w ≡ false
       go (inl t) = absurd (bad (Z .placed .only w (A .markedAllocated w (A .grayMarked w t))))

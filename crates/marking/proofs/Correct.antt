@@ -23,12 +23,12 @@ use Rattle.marking.proofs.Represents.{Layout, Live}
 use Rattle.marking.specs.Event.{Event, effect, Each}
 use Rattle.marking.specs.Event
 use Rattle.marking.specs.Ledger.{Ledger, feed, feedAll, ledgerWord, Reachable, lastBorn}
-use Rattle.marking.specs.Trace.{Step, Steps, setup, start, endCycle, get}
+use Rattle.marking.specs.Trace.{Step, Steps, start, endCycle, get}
 use Rattle.marking.proofs.Agreement.{Agrees}
 use Rattle.marking.proofs.Refinement.{after, agree, phased, step-start, step-endCycle}
 use Rattle.marking.specs.Claim.{Answers, Correct, freedIn, freedDuring, freedToEnd, isAllocated, workIn}
 use Rattle.marking.proofs.Matches.{matches, back, got, at-is}
-use Rattle.marking.proofs.Freed.{Reached, reached, Within, within, last-is, Tally, isAllocated-is, end-frees}
+use Rattle.marking.proofs.Freed.{Reached, Within, within, last-is, Tally, isAllocated-is, end-frees}
 
 start-marks : (S : State) → T (marking ((perform Operations.start S) .phase))
 unfolding perform

@@ -1,12 +1,12 @@
 -- Laws of counting: fewer pass, as many pass, one more passes; of numbers below a bound (below-..) and of records (count-..).
 use mathlib.Core.Path.{_≡_}
-use mathlib.Core.Bool.{Bool, true, false, not, _&&_}
+use mathlib.Core.Bool.{Bool, true, false, not}
 use mathlib.Core.Logic.{_⊎_, inl, inr}
 use Prim.Native.Nat.{ℕ, zero, suc, _≤_, _<_}
 use native.Mathlib.Omega.{arith}
 use lib.Dec.{T, eqb, eqb→eq}
 use Rattle.model.proofs.Tests.{of-true, of-false}
-use Rattle.marking.proofs.Updates.{test, differ, and-both, and-left, and-right}
+use Rattle.marking.proofs.Updates.{test, differ, and-both, and-left, and-right, and-fails}
 use Rattle.model.specs.Bounded.{countBelow}
 use Rattle.marking.specs.Effect.{asNumber}
 use Rattle.marking.specs.Count.{some, count}
@@ -78,12 +78,8 @@ count-le p q n h = below-le (some p) (some q) n (λ x k. some-le p q x (λ z. h 
 
 pub count-lt : (p q : ℕ → Bool) (n x : ℕ) → 0 < x → x < n → T (not (p x)) → T (q x) → ((y : ℕ) → 0 < y → y < n → T (p y) → T (q y)) →
     count p n < count q n
-count-lt p q n x z k d e h = below-lt (some p) (some q) n x k (no (not (eqb x 0)) (p x) d) (some-one q x z e)
+count-lt p q n x z k d e h = below-lt (some p) (some q) n x k (and-fails (not (eqb x 0)) (p x) d) (some-one q x z e)
     (λ y l. some-le p q y (λ u. h y u l))
-  where
-    no : (a b : Bool) → T (not b) → T (not (a && b))
-    no true b t = t
-    no false b t = tt
 
 -- tests that say the same
 pub count-same : (p q : ℕ → Bool) (n : ℕ) → ((x : ℕ) → 0 < x → x < n → p x ≡ q x) → count p n ≡ count q n

@@ -31,7 +31,7 @@ use Rattle.marking.proofs.Agreement.{Agrees}
 use Rattle.marking.proofs.Refinement
 use Rattle.marking.proofs.Refinement.{Becomes, agree, slot-record}
 use Rattle.marking.proofs.Matches.{at-is}
-use Rattle.marking.proofs.Freed.{isAllocated-is, Within, within, reached, end-frees}
+use Rattle.marking.proofs.Freed.{isAllocated-is, Within, within, end-frees}
 use Rattle.marking.proofs.Saving.{Saving, With, save-plain, save-shades, save-birth, save-store}
 use Rattle.marking.specs.Survivors.{From, itself, field, Saves, SavedBy, Saved, isMarked, Exact}
 

@@ -91,7 +91,7 @@ swept-ledger (Event.writes w) L t = absurd t
 swept-ledger (Event.get s j f) L t = absurd t
 swept-ledger (Event.scanStack s) L t = absurd t
 swept-ledger Event.scanGlobals L t = absurd t
-swept-ledger (Event.does c) L t = rw (of-false (c is setsUp) (sweep-lasting c t))
+swept-ledger (Event.acts c) L t = rw (of-false (c is setsUp) (sweep-lasting c t))
 
 shown : (x : ℕ) (L : Ledger) (H : WordHeap) (e : Event) (H′ : WordHeap) →
     freedIn x L H e H′ ≡ turnedOff (effect e) (isAllocated L H x) (isAllocated (feed e L) H′ x)

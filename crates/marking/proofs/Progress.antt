@@ -11,14 +11,14 @@ use lib.ListN.{length}
 use lib.Dec.{T, eqb, eqb→eq}
 use Rattle.marking.specs.Updates.{update}
 use Rattle.model.proofs.Tests.{of-true}
-use Rattle.marking.proofs.Updates.{update-same, update-other, update-case, test, differ, and-both, and-left}
+use Rattle.marking.proofs.Updates.{update-same, update-other, update-case, test, differ, and-both, and-left, and-not-fails}
 use Rattle.marking.specs.Effect.{asNumber}
 use Rattle.model.specs.Memory.{slotCount}
 use Rattle.marking.proofs.Graph.{Graph}
 use Rattle.marking.proofs.Colours.{Colours, Marked, hasPointers, shade, shadeAll, ungray, setGrayStack, shadeAll-grows, shadeAll-grayStack}
 use Rattle.marking.proofs.Operations.{State, Operation, finish, endCycle, scanStack, scanGlobals, markStep, sweepStep, Allowed, perform, markAt, performAll, AllAllowed}
 use Rattle.marking.specs.WordHeap.{mark, sweep, marking}
-use Rattle.marking.proofs.Safety.{Invariant, perform-keeps}
+use Rattle.marking.proofs.Safety.{Invariant, perform-keeps, gray-born}
 use Rattle.model.specs.Bounded.{countBelow}
 use Rattle.model.proofs.Bounded
 use Rattle.marking.specs.Count.{count}
@@ -122,11 +122,6 @@ module _ (S : State) (I : Invariant S) (p : S .phase ≡ mark) where
       a : T (S .allocated x)
       a = I .keptAllocated x (I .tricolour m .markedKept x (I .tricolour m .grayMarked x g))
 
-      no : (u v : Bool) → T v → T (not (u && not v))
-      no true true t = tt
-      no true false t = absurd t
-      no false v t = tt
-
       still : (u v w : Bool) → T u → T w → T (u && not (v && not w))
       still true true true t s = tt
       still true true false t s = absurd s
@@ -136,7 +131,7 @@ module _ (S : State) (I : Invariant S) (p : S .phase ≡ mark) where
       fewer : whites (markAt x S) < whites S
       fewer = rw (markAt-allocated x S, markAt-born x S)
           (count-lt (λ y. S .allocated y && not (black ((markAt x S) .colours) y)) (λ y. S .allocated y && not (black (S .colours) y)) (S .graph .born) x z (I .allocatedBorn x a)
-          (no (S .allocated x) (black ((markAt x S) .colours) x) (marked-black x S (I .tricolour m .grayMarked x g)))
+          (and-not-fails (S .allocated x) (black ((markAt x S) .colours) x) (marked-black x S (I .tricolour m .grayMarked x g)))
           (still (S .allocated x) (S .colours .marked x) (S .colours .gray x) a g)
           (λ y _ _. not-both (S .allocated y) (black (S .colours) y) (black ((markAt x S) .colours) y) (darkens (markStep x) S tt (p, z, g) I m .black y)))
 
@@ -161,9 +156,6 @@ StacksBelow n S = (t : ℕ) → T (S .colours .grayStack t) → t < n
 pub next : (n : ℕ) (S : State) → Invariant S → S .phase ≡ mark → StacksBelow n S → Next n S
 next n S I p b = stacks (find (S .colours .grayStack) n)
   where
-    M : (x : ℕ) → T (S .colours .gray x) → x < S .graph .born
-    M x g = let C = I .tricolour (rw p tt) in I .allocatedBorn x (I .keptAllocated x (C .markedKept x (C .grayMarked x g)))
-
     none : (p : ℕ → Bool) (k : ℕ) → ((x : ℕ) → x < k → T (not (p x))) → ((x : ℕ) → T (p x) → x < k) → (x : ℕ) → T (not (p x))
     none p k f g x = go (test (p x))
       where
@@ -179,7 +171,7 @@ next n S I p b = stacks (find (S .colours .grayStack) n)
         (((x : ℕ) × (x < S .graph .born) × T (S .colours .gray x)) ⊎ ((x : ℕ) → x < S .graph .born → T (not (S .colours .gray x)))) →
         Next n S
     records h (inl r) = at (r .0) (r .2) (test (eqb (r .0) 0))
-    records h (inr f) = finishes (p, (λ x _. none (S .colours .gray) (S .graph .born) f M x), h)
+    records h (inr f) = finishes (p, (λ x _. none (S .colours .gray) (S .graph .born) f (gray-born I (rw p tt)) x), h)
 
     stacks : (((t : ℕ) × (t < n) × T (S .colours .grayStack t)) ⊎ ((t : ℕ) → t < n → T (not (S .colours .grayStack t)))) → Next n S
     stacks (inl r) = collects (scanStack (r .0)) (scan (r .0)) p (scan-falls S I p n (r .0) (r .1) (r .2))

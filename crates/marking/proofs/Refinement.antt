@@ -15,7 +15,7 @@ use Rattle.marking.proofs.Operations
 use Rattle.marking.proofs.Operations.{State, graphSource, Operation, Held, Allowed, perform, markAt, operationEffect}
 use Rattle.marking.specs.WordHeap.{Phase, off, mark, sweep, marking, WordHeap, LegalColours, Elements, Alike, recordIn, heapSource, HasSource, heapAssign, heapStore, heapStoreGlobal, heapPut, heapResetStack, heapStart, heapScanStack, heapScanGlobals, heapMarkStep, heapFinish, heapSweep, heapEndCycle, heapAllocate}
 use Rattle.marking.proofs.Safety.{perform-keeps}
-use Rattle.marking.proofs.Represents.{Layout, address, Live, Represents, address-nil, word-address}
+use Rattle.marking.proofs.Represents.{Layout, address, Live, Represents, address-nil, word-address, starts-elsewhere}
 use Rattle.marking.proofs.Simulation
 use Rattle.marking.proofs.Simulation.{nil-or-live}
 use Rattle.marking.proofs.Birth.{placeRecord, represents-allocate}
@@ -287,15 +287,11 @@ module _ {H : WordHeap} {L : Ledger} {S : State} {Y : Layout} (R : Agrees H L S 
         (represents-allocate A (R .invariant) (R .represents) s i w n p arena E unswept free′ big zeroed alone element
         (λ x l. others (Y .at x) (R .represents .placed .on x l)) fresh (λ x l. unswepts (Y .at x) (R .represents .placed .on x l)));
     describes = describes-allocate s i p n w;
-    last = last-new w n (λ x l. other x l (free′ x l));
+    last = last-new w n (λ x l. starts-elsewhere (R .represents .placed) w n x (big .1) l (free′ x l));
   }
     where
       free′ : (x : ℕ) → Live (S .allocated) x → (Y .at x + Y .words x ≤ w) ⊎ (w + n ≤ Y .at x)
       free′ x l = rw (← (R .represents .placed .words x l)) (free (Y .at x) (R .represents .placed .on x l))
-
-      other : (x : ℕ) → Live (S .allocated) x → ((Y .at x + Y .words x ≤ w) ⊎ (w + n ≤ Y .at x)) → Y .at x ≢ w
-      other x l (inl u) = omega (arith, R .represents .placed .fits x l)
-      other x l (inr u) = omega arith
 
   pub step-idle : Becomes Operations.idle H L S
   unfolding perform

@@ -39,6 +39,12 @@ pub record Placed (allocatedBit : ℕ → Bool) (E : Elements) (Y : Layout) (poi
   pub pointers : (x : ℕ) → Live allocated x → E .pointers (Y .at x) ≡ pointersOf x
   pub words : (x : ℕ) → Live allocated x → E .words (Y .at x) ≡ Y .words x
 
+-- a record that lies before or after a stretch of n words does not start where it starts
+pub starts-elsewhere : {a : ℕ → Bool} {E : Elements} {Y : Layout} {pointersOf : ℕ → ℕ} {allocated : ℕ → Bool} → Placed a E Y pointersOf allocated →
+    (w n x : ℕ) → 0 < n → Live allocated x → ((Y .at x + Y .words x ≤ w) ⊎ (w + n ≤ Y .at x)) → Y .at x ≢ w
+starts-elsewhere P w n x b l (inl h) = omega (arith, P .fits x l)
+starts-elsewhere P w n x b l (inr h) = omega arith
+
 pub record SameColours (Y : Layout) (allocated : ℕ → Bool) (B : ColourBits) (C : Colours) : Type 0 where
   pub marked : (x : ℕ) → Live allocated x → B .marked (Y .at x) ≡ C .marked x
   pub gray : (x : ℕ) → Live allocated x → B .gray (Y .at x) ≡ C .gray x

@@ -27,6 +27,10 @@ pub record Invariant (S : State) : Type 0 where
   pub allocatedBorn : (x : ℕ) → T (S .allocated x) → x < S .graph .born
   pub tricolour : T (marking (S .phase)) → TriColour (S .graph) (S .kept) (S .colours)
 
+-- a gray record is born
+pub gray-born : {S : State} → Invariant S → T (marking (S .phase)) → (x : ℕ) → T (S .colours .gray x) → x < S .graph .born
+gray-born I m x g = let C = I .tricolour m in I .allocatedBorn x (I .keptAllocated x (C .markedKept x (C .grayMarked x g)))
+
 -- what a stack holds, and what a call puts in a slot, is in each closed predicate ..
 pub held-closed : {G : Graph} {t : ℕ} {P : ℕ → Type 0} → Closed G P → {x : ℕ} → Held G t x → P x
 held-closed Q nil = Q .nil

@@ -59,6 +59,16 @@ pub and-right : (a b : Bool) → T (a && b) → T b
 and-right true b t = t
 and-right false b t = absurd t
 
+-- where the second test of two fails, both together do; and so where the first holds without it
+pub and-fails : (a b : Bool) → T (not b) → T (not (a && b))
+and-fails true b t = t
+and-fails false b t = tt
+
+pub and-not-fails : (a b : Bool) → T b → T (not (a && not b))
+and-not-fails true true t = tt
+and-not-fails true false t = absurd t
+and-not-fails false b t = tt
+
 pub test : (b : Bool) → T b ⊎ T (not b)
 test true = inl tt
 test false = inr tt

@@ -8,7 +8,7 @@ use Prim.Native.Nat.{ℕ, zero, suc, _+_, _≤_, _<_}
 use native.Mathlib.Omega.{arith}
 use lib.Dec.{T, eqb}
 use Rattle.marking.specs.Updates.{update}
-use Rattle.marking.proofs.Updates.{update-case, update-same, cond-on, and-both, and-left, and-right, added-old}
+use Rattle.marking.proofs.Updates.{update-case, update-same, cond-on, and-both, and-left, and-right, added-old, and-not-fails}
 use Rattle.marking.specs.Effect.{inMarking, work}
 use Rattle.marking.proofs.Effects.{inMarking-lasting}
 use Rattle.model.specs.Memory.{slotCount}
@@ -16,7 +16,7 @@ use Rattle.marking.proofs.Graph.{Graph}
 use Rattle.marking.proofs.Colours.{Colours, Marked, hasPointers, shade, shadeAll, ungray, setGrayStack, blacken}
 use Rattle.marking.proofs.Operations.{State, Operation, idle, setup, assign, store, resetStack, allocate, start, finish, endCycle, scanStack, scanGlobals, markStep, sweepStep, Allowed, perform, markAt, performAll, AllAllowed, operationEffect, EachOperation}
 use Rattle.marking.specs.WordHeap.{marking}
-use Rattle.marking.proofs.Safety.{Invariant, perform-keeps, runs-keep}
+use Rattle.marking.proofs.Safety.{Invariant, perform-keeps, runs-keep, gray-born}
 use Rattle.marking.proofs.Cycle.{counted-by}
 use Rattle.marking.specs.Count.{some, count}
 use Rattle.marking.proofs.Count.{count-le, count-lt, below-more}
@@ -128,20 +128,12 @@ darker c S w p I m = go (darkens c S w p I m) (darkens c S w p I m .takes)
     )
     go D (inr r) = omega (
       arith,
-      count-lt (black (S .colours)) (black ((perform c S) .colours)) (S .graph .born) (r .1 .0) (r .1 .1) (born (r .1 .0) (r .1 .2)) (not-yet (r .1 .0) (r .1 .2)) (r .1 .3) (λ x _ _. D .black x),
+      count-lt (black (S .colours)) (black ((perform c S) .colours)) (S .graph .born) (r .1 .0) (r .1 .1) (gray-born I m (r .1 .0) (r .1 .2)) (not-yet (r .1 .0) (r .1 .2)) (r .1 .3) (λ x _ _. D .black x),
       below-more (some (black ((perform c S) .colours))) (S .graph .born) ((perform c S) .graph .born) grows,
     )
       where
-        born : (x : ℕ) → T (S .colours .gray x) → x < S .graph .born
-        born x g = I .allocatedBorn x (I .keptAllocated x (I .tricolour m .markedKept x (I .tricolour m .grayMarked x g)))
-
-        no : (a b : Bool) → T b → T (not (a && not b))
-        no true true t = tt
-        no true false t = absurd t
-        no false b t = tt
-
         not-yet : (x : ℕ) → T (S .colours .gray x) → T (not (black (S .colours) x))
-        not-yet x g = no (S .colours .marked x) (S .colours .gray x) g
+        not-yet x g = and-not-fails (S .colours .marked x) (S .colours .gray x) g
 
 unfoldable pub works : List Operation → ℕ
 works [] = 0

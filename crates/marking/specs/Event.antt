@@ -34,36 +34,36 @@ pub data Event : Type 0 where
   get : (s j f : ℕ) → Event
   scanStack : (s : ℕ) → Event
   scanGlobals : Event
-  does : Effect → Event
+  acts : Effect → Event
 
 abbrev pub effect : Event → Effect
 effect (writes w) = none
 effect (get s j f) = none
 effect (scanStack s) = none
 effect scanGlobals = none
-effect (does c) = c
+effect (acts c) = c
 
 -- the other calls by name. nothing: a refused call, the audit, and a mark step that finds no gray record; markStep: one that finds one
 abbrev pub nothing : Event
-nothing = does none
+nothing = acts none
 
 abbrev pub setup : Event
-setup = does setsUp
+setup = acts setsUp
 
 abbrev pub start : Event
-start = does starts
+start = acts starts
 
 abbrev pub markStep : Event
-markStep = does works
+markStep = acts works
 
 abbrev pub finish : Event
-finish = does finishes
+finish = acts finishes
 
 abbrev pub sweepStep : Event
-sweepStep = does sweeps
+sweepStep = acts sweeps
 
 abbrev pub endCycle : Event
-endCycle = does ends
+endCycle = acts ends
 
 -- every event of a list has an effect that passes a test
 unfoldable pub Each : (Effect → Bool) → List Event → Type 0

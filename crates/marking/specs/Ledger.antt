@@ -5,7 +5,7 @@ use Prim.Native.Nat.{ℕ, zero, suc, _<_}
 use lib.Dec.{T, eqb, ltb}
 use Rattle.marking.specs.Updates.{update, update2}
 use Rattle.marking.specs.Effect.{setsUp, _is_}
-use Rattle.marking.specs.Event.{Source, resetStack, assign, store, storeGlobal, put, allocate, writes, get, scanStack, scanGlobals, does}
+use Rattle.marking.specs.Event.{Source, resetStack, assign, store, storeGlobal, put, allocate, writes, get, scanStack, scanGlobals, acts}
 pub use Rattle.marking.specs.Event.{Event, effect}
 unfoldable pub use Rattle.marking.specs.Event.{Each}
 
@@ -74,7 +74,7 @@ feed (writes (allocate s i p n a)) L = withSlot s i (suc (L .count)) (withRecord
 feed (get s j f) L = L
 feed (scanStack s) L = L
 feed scanGlobals L = L
-feed (does c) L = cond (c is setsUp) empty L
+feed (acts c) L = cond (c is setsUp) empty L
 
 unfoldable pub feedAll : List Event → Ledger → Ledger
 feedAll [] L = L

@@ -10,7 +10,7 @@ use lib.Dec.{T}
 use Rattle.marking.specs.Effect.{inCycle, inMarking}
 use Rattle.marking.specs.WordHeap.{WordHeap}
 use Rattle.model.specs.Memory.{wordOf}
-use Rattle.marking.specs.Event.{Event, resetStack, assign, store, storeGlobal, put, allocate, writes, get, scanStack, scanGlobals, does, Each}
+use Rattle.marking.specs.Event.{Event, resetStack, assign, store, storeGlobal, put, allocate, writes, get, scanStack, scanGlobals, acts, Each}
 use Rattle.marking.specs.Event
 use Rattle.marking.specs.Ledger.{Ledger, feed, feedAll}
 use Rattle.marking.specs.Trace.{Step, Steps}
@@ -33,7 +33,7 @@ Saves (get s j f) L x = ⊥
 -- a scan, a scan of what is scanned already too: such a stack's slots hold only what is saved by the finish anyway
 Saves (scanStack s) L x = (i : ℕ) × From L (L .slot s i) x
 Saves scanGlobals L x = (g : ℕ) × From L (L .global g) x
-Saves (does c) L x = ⊥
+Saves (acts c) L x = ⊥
 
 -- those of K and what a list of calls saves
 unfoldable pub SavedBy : List Event → Ledger → (ℕ → Type 0) → ℕ → Type 0

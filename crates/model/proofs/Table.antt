@@ -8,7 +8,7 @@ use native.Mathlib.Omega.{arith}
 use lib.ListN.{getD, set, length-set}
 use lib.Dec.{eqb}
 use borrow.Author.Tests.{eq-eqb, ne-eqb, eqb-true, eqb-false}
-use Rattle.model.specs.Memory.{entryNumbers}
+use Rattle.model.specs.Memory.{entryNumbers, countOffset, kindOffset}
 use Rattle.model.specs.Spans.{owner, pageCount, kindEntry, Entry, putPage, putPages}
 use Rattle.model.specs.Lent.{PageTable}
 use Rattle.model.proofs.Bounded.{within, run-ok, run-read}
@@ -31,25 +31,25 @@ first-column x g = ap (λ y. eqb y (entryNumbers * g)) (sym (add-zero (entryNumb
 
 -- number i of a table after page g's entry was written
 three : (t : List ℕ) (P g : ℕ) (e : Entry) → g < P → PageTable P t → (i : ℕ) → getD (putPage g e t) i 0 ≡
-    cond (eqb i (entryNumbers * g + 2)) (e .kind) (cond (eqb i (entryNumbers * g + 1)) (e .count) (cond (eqb i (entryNumbers * g)) (e .owner) (getD t i 0)))
+    cond (eqb i (entryNumbers * g + kindOffset)) (e .kind) (cond (eqb i (entryNumbers * g + countOffset)) (e .count) (cond (eqb i (entryNumbers * g)) (e .owner) (getD t i 0)))
 unfolding putPage
 three t P g e h k i = rw (
-  set-at (set (set t (entryNumbers * g) (e .owner)) (entryNumbers * g + 1) (e .count)) (entryNumbers * g + 2) (e .kind) (simp length-set (omega arith)) i,
-  set-at (set t (entryNumbers * g) (e .owner)) (entryNumbers * g + 1) (e .count) (simp length-set (omega arith)) i,
+  set-at (set (set t (entryNumbers * g) (e .owner)) (entryNumbers * g + countOffset) (e .count)) (entryNumbers * g + kindOffset) (e .kind) (simp length-set (omega arith)) i,
+  set-at (set t (entryNumbers * g) (e .owner)) (entryNumbers * g + countOffset) (e .count) (simp length-set (omega arith)) i,
   set-at t (entryNumbers * g) (e .owner) (omega arith) i,
 )
 
 pub owner-put : (P g : ℕ) (e : Entry) (t : List ℕ) → g < P → PageTable P t → (x : ℕ) → owner (putPage g e t) x ≡ cond (true && eqb x g) (e .owner) (owner t x)
 unfolding owner
-owner-put P g e t h k x = rw (three t P g e h k (entryNumbers * x), ne-eqb (entryNumbers * x) (entryNumbers * g + 2) (omega arith), ne-eqb (entryNumbers * x) (entryNumbers * g + 1) (omega arith), first-column x g)
+owner-put P g e t h k x = rw (three t P g e h k (entryNumbers * x), ne-eqb (entryNumbers * x) (entryNumbers * g + kindOffset) (omega arith), ne-eqb (entryNumbers * x) (entryNumbers * g + countOffset) (omega arith), first-column x g)
 
 pub count-put : (P g : ℕ) (e : Entry) (t : List ℕ) → g < P → PageTable P t → (x : ℕ) → pageCount (putPage g e t) x ≡ cond (true && eqb x g) (e .count) (pageCount t x)
 unfolding pageCount
-count-put P g e t h k x = rw (three t P g e h k (entryNumbers * x + 1), ne-eqb (entryNumbers * x + 1) (entryNumbers * g + 2) (omega arith), column 1 x g, ne-eqb (entryNumbers * x + 1) (entryNumbers * g) (omega arith))
+count-put P g e t h k x = rw (three t P g e h k (entryNumbers * x + countOffset), ne-eqb (entryNumbers * x + countOffset) (entryNumbers * g + kindOffset) (omega arith), column countOffset x g, ne-eqb (entryNumbers * x + countOffset) (entryNumbers * g) (omega arith))
 
 pub kind-put : (P g : ℕ) (e : Entry) (t : List ℕ) → g < P → PageTable P t → (x : ℕ) → kindEntry (putPage g e t) x ≡ cond (true && eqb x g) (e .kind) (kindEntry t x)
 unfolding kindEntry
-kind-put P g e t h k x = rw (three t P g e h k (entryNumbers * x + 2), column 2 x g, ne-eqb (entryNumbers * x + 2) (entryNumbers * g + 1) (omega arith), ne-eqb (entryNumbers * x + 2) (entryNumbers * g) (omega arith))
+kind-put P g e t h k x = rw (three t P g e h k (entryNumbers * x + kindOffset), column kindOffset x g, ne-eqb (entryNumbers * x + kindOffset) (entryNumbers * g + countOffset) (omega arith), ne-eqb (entryNumbers * x + kindOffset) (entryNumbers * g) (omega arith))
 
 -- .. and after a run of entries
 module _ (P s n : ℕ) (g : ℕ → Entry) (t : List ℕ) (h : s + n ≤ P) (k : PageTable P t) where

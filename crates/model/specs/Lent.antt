@@ -4,7 +4,7 @@ use Prim.Native.Nat.{ℕ, _+_, _*_, _<_, _≤_}
 use mathlib.Core.List.{List}
 use mathlib.Core.Path.{_≡_}
 use lib.ListN.{length, getD}
-use Rattle.model.specs.Memory.{Heap, lent, maxPages, entryNumbers, unsweptFlag, bitmapWords, rootWords, firstState, pageOf}
+use Rattle.model.specs.Memory.{Heap, lent, maxPages, entryNumbers, kindOffset, unsweptFlag, bitmapWords, rootWords, firstState, pageOf}
 use Rattle.model.specs.Answers.{Outcome, Meets}
 use Rattle.model.specs.Spans.{kindEntry, spanOf}
 use Rattle.model.specs.Facts.{Spans, IsSpan, Bits, Reference, Audited}
@@ -20,7 +20,7 @@ PageTable p t = length t ≡ entryNumbers * p
 
 -- page g has its entry in the table
 abbrev pub HasEntry : List ℕ → ℕ → Type 0
-HasEntry t g = entryNumbers * g + 2 < length t
+HasEntry t g = entryNumbers * g + kindOffset < length t
 
 -- so have the page and the span that word w lies in
 pub record WordEntries (t : List ℕ) (w : ℕ) : Type 0 where

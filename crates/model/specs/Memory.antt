@@ -24,6 +24,13 @@ wordBytes = 8
 abbrev pub entryNumbers : ℕ
 entryNumbers = 3
 
+-- .. of a page: "s+1, its page count, its kind"
+abbrev pub countOffset : ℕ
+countOffset = 1
+
+abbrev pub kindOffset : ℕ
+kindOffset = 2
+
 -- "plus 256 in the kind if the span is unswept"
 abbrev pub unsweptFlag : ℕ
 unsweptFlag = 256

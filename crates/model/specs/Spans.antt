@@ -4,7 +4,7 @@ use mathlib.Core.Bool.{Bool, _&&_, not, cond}
 use mathlib.Core.List.{List}
 use lib.ListN.{getD, set}
 use Rattle.model.specs.Bounded.{_==_, _<?_, _≤?_, firstBelow, writeRun}
-use Rattle.model.specs.Memory.{Heap, entryNumbers, unsweptFlag, pageOf, firstWord, wordOf}
+use Rattle.model.specs.Memory.{Heap, entryNumbers, countOffset, kindOffset, unsweptFlag, pageOf, firstWord, wordOf}
 use Rattle.model.specs.Classes.{elementWordsOf, elementsOf}
 use Rattle.model.specs.Bitmaps.{is, allocated, marked, pointer}
 
@@ -13,10 +13,10 @@ unfoldable pub owner : List ℕ → ℕ → ℕ
 owner t g = getD t (entryNumbers * g) 0
 
 unfoldable pub pageCount : List ℕ → ℕ → ℕ
-pageCount t g = getD t (entryNumbers * g + 1) 0
+pageCount t g = getD t (entryNumbers * g + countOffset) 0
 
 unfoldable pub kindEntry : List ℕ → ℕ → ℕ
-kindEntry t g = getD t (entryNumbers * g + 2) 0
+kindEntry t g = getD t (entryNumbers * g + kindOffset) 0
 
 -- an entry's three numbers
 pub record Entry : Type 0 where
@@ -27,7 +27,7 @@ pub record Entry : Type 0 where
 -- the table with page g's entry
 unfoldable pub putPage : ℕ → Entry → List ℕ → List ℕ
 putPage g e t =
-    set (set (set t (entryNumbers * g) (e .owner)) (entryNumbers * g + 1) (e .count)) (entryNumbers * g + 2) (e .kind)
+    set (set (set t (entryNumbers * g) (e .owner)) (entryNumbers * g + countOffset) (e .count)) (entryNumbers * g + kindOffset) (e .kind)
 
 -- the entries of the n pages from s on, each to that of its page
 abbrev pub putPages : ℕ → ℕ → (ℕ → Entry) → List ℕ → List ℕ

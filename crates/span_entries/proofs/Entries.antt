@@ -4,7 +4,7 @@ use mathlib.Core.List.{List}
 use mathlib.Core.Path.{_≡_, refl, sym, _∙_}
 use lib.ListN.{length, set, length-set}
 use lib.Seq.{set-getD}
-use Rattle.model.specs.Memory.{entryNumbers}
+use Rattle.model.specs.Memory.{entryNumbers, countOffset, kindOffset}
 use Rattle.model.specs.Spans.{owner, pageCount, kindEntry, Entry, putPage, putPages}
 use Rattle.model.proofs.Bounded.{run-none, run-step}
 
@@ -13,14 +13,14 @@ unfolding putPage
 put-length g e t = simp length-set
 
 -- owner and page count stay: only the kind is set
-pub put-kind : (g : ℕ) (e : Entry) (t : List ℕ) → e .owner ≡ owner t g → e .count ≡ pageCount t g → putPage g e t ≡ set t (entryNumbers * g + 2) (e .kind)
+pub put-kind : (g : ℕ) (e : Entry) (t : List ℕ) → e .owner ≡ owner t g → e .count ≡ pageCount t g → putPage g e t ≡ set t (entryNumbers * g + kindOffset) (e .kind)
 unfolding putPage owner pageCount
-put-kind g e t p q = rw (p, set-getD t (entryNumbers * g) 0, q, set-getD t (entryNumbers * g + 1) 0)
+put-kind g e t p q = rw (p, set-getD t (entryNumbers * g) 0, q, set-getD t (entryNumbers * g + countOffset) 0)
 
 -- all three stay
 pub put-same : (g : ℕ) (e : Entry) (t : List ℕ) → e .owner ≡ owner t g → e .count ≡ pageCount t g → e .kind ≡ kindEntry t g → putPage g e t ≡ t
 unfolding kindEntry
-put-same g e t p q r = put-kind g e t p q ∙ rw (r, set-getD t (entryNumbers * g + 2) 0)
+put-same g e t p q r = put-kind g e t p q ∙ rw (r, set-getD t (entryNumbers * g + kindOffset) 0)
 
 -- `now` is the table t after the first k entries of a run from page s on were written
 pub record Written (s k : ℕ) (f : ℕ → Entry) (t now : List ℕ) : Type 0 where

@@ -5,7 +5,7 @@ use mathlib.Core.Path.{_≡_, sym, _∙_}
 use native.Mathlib.Omega.{arith}
 use lib.ListN.{set}
 use borrow.Author.Tests.{eq-eqb, ne-eqb}
-use Rattle.model.specs.Memory.{entryNumbers, unsweptFlag}
+use Rattle.model.specs.Memory.{entryNumbers, kindOffset, unsweptFlag}
 use Rattle.model.specs.Spans.{owner, pageCount, kindEntry, Entry}
 use Rattle.model.specs.Cycle.{unsweptPage}
 use Rattle.model.proofs.Bounded.{within-high}
@@ -33,7 +33,7 @@ module _ (p : ℕ) (t now : List ℕ) (g : ℕ) (w : Written 0 g (unsweptPage t)
   same = untouched p t now g (unsweptPage t) w h l
 
   -- a span starts at page g
-  pub flagged : owner now g ≡ g + 1 → Written 0 (g + 1) (unsweptPage t) t (set now (entryNumbers * g + 2) (kindEntry now g + unsweptFlag))
+  pub flagged : owner now g ≡ g + 1 → Written 0 (g + 1) (unsweptPage t) t (set now (entryNumbers * g + kindOffset) (kindEntry now g + unsweptFlag))
   flagged e =
       one-written 0 g (unsweptPage t) t now _ g w (omega arith)
       (sym (put-kind g (unsweptPage t g) now (sym (same .owners)) (sym (same .counts)) ∙ rw (eq-eqb (owner t g) (g + 1) (sym (same .owners) ∙ e), same .kinds)))

@@ -18,7 +18,8 @@ use units::UNSWEPT_FLAG;
 fn put_entry(table: &mut [u32], g: usize, owner: u32, count: u32, kind: u32)
     requires { ⌜ HasEntry (now table) g ⌝ }
     ensures { λ r. ⌜
-        now (table .exit) ≡ putPage g (record { owner = owner; count = count; kind = kind }) (now (table .entry)) ⌝ }
+        now (table .exit) ≡
+        putPage g (record { owner = owner; count = count; kind = kind }) (now (table .entry)) ⌝ }
 {
     let at = ENTRY_NUMBERS * g;
     table[at] = owner;
@@ -61,7 +62,8 @@ pub fn free_span(table: &mut [u32], s: usize, n: usize)
 pub fn set_kind(table: &mut [u32], s: usize, kind: u32)
     requires { ⌜ SpanEntry (now table) s ⌝ }
     ensures { λ r. ⌜
-        now (table .exit) ≡ putPage s (spanPage s (pageCount (now (table .entry)) s) kind s) (now (table .entry)) ⌝ }
+        now (table .exit) ≡
+        putPage s (spanPage s (pageCount (now (table .entry)) s) kind s) (now (table .entry)) ⌝ }
 {
     table[ENTRY_NUMBERS * s + KIND] = kind;
 }
@@ -70,7 +72,8 @@ pub fn set_kind(table: &mut [u32], s: usize, kind: u32)
 pub fn make_swept(table: &mut [u32], s: usize)
     requires { ⌜ SpanEntry (now table) s ⌝ }
     ensures { λ r. ⌜
-        now (table .exit) ≡ putPage s (spanPage s (pageCount (now (table .entry)) s) (kindAt (now (table .entry)) s) s)
+        now (table .exit) ≡
+        putPage s (spanPage s (pageCount (now (table .entry)) s) (kindAt (now (table .entry)) s) s)
         (now (table .entry)) ⌝ }
 {
     let kind = table[ENTRY_NUMBERS * s + KIND] % UNSWEPT_FLAG;

@@ -39,7 +39,8 @@ pub fn elements(table: &[u32], s: usize) -> usize
 // not depend on the arena and the roots.
 pub fn free_element(p: usize, table: &[u32], bits: &[u64], s: usize) -> usize
     requires { ⌜ MappedSpan p (now table) (now bits) s ⌝ }
-    ensures { λ r. ⌜ ((a o : List ℕ) → r ≡ freeElement (lent p a (now (table .entry)) (now (bits .entry)) o) s) ⌝ }
+    ensures { λ r. ⌜
+        ((a o : List ℕ) → r ≡ freeElement (lent p a (now (table .entry)) (now (bits .entry)) o) s) ⌝ }
 {
     let size = element_words(table, s);
     let count = elements(table, s);
@@ -49,7 +50,8 @@ pub fn free_element(p: usize, table: &[u32], bits: &[u64], s: usize) -> usize
 // A swept span of the kind, with a free element, starts at page s.
 fn has_room(p: usize, table: &[u32], bits: &[u64], kind: usize, s: usize) -> bool
     requires { ⌜ Mapped p (now table) (now bits) × (s < p) ⌝ }
-    ensures { λ r. ⌜ ((a o : List ℕ) → r ≡ hasRoom (lent p a (now (table .entry)) (now (bits .entry)) o) kind s) ⌝ }
+    ensures { λ r. ⌜
+        ((a o : List ℕ) → r ≡ hasRoom (lent p a (now (table .entry)) (now (bits .entry)) o) kind s) ⌝ }
 {
     if pages::owner(table, s) != s + 1 {
         return false;
@@ -64,7 +66,8 @@ fn has_room(p: usize, table: &[u32], bits: &[u64], kind: usize, s: usize) -> boo
 // depend on the arena and the roots.
 pub fn span_with_room(p: usize, table: &[u32], bits: &[u64], kind: usize) -> usize
     requires { ⌜ Mapped p (now table) (now bits) ⌝ }
-    ensures { λ r. ⌜ ((a o : List ℕ) → r ≡ spanWithRoom (lent p a (now (table .entry)) (now (bits .entry)) o) kind) ⌝ }
+    ensures { λ r. ⌜
+        ((a o : List ℕ) → r ≡ spanWithRoom (lent p a (now (table .entry)) (now (bits .entry)) o) kind) ⌝ }
 {
     let mut s = 0;
     while s < p {

@@ -17,7 +17,8 @@ use units::PAGE_BLOCKS;
 fn clear_freed(p: usize, table: &[u32], bits: &mut [u64], s: usize)
     requires { ⌜ Sweepable p (now table) (now bits) s ⌝ }
     ensures { λ r. ⌜
-        now (bits .exit) ≡ putBits (pageWords * p) pointer (firstWord s) (pageWords * pageCount (now (table .entry)) s)
+        now (bits .exit) ≡
+        putBits (pageWords * p) pointer (firstWord s) (pageWords * pageCount (now (table .entry)) s)
         (λ w. bitIn (pageWords * p) pointer (now (bits .entry)) w && bitIn (pageWords * p) marked (now (bits .entry))
         (elementStart (now (table .entry)) s (elementNumber (now (table .entry)) s w)))
         (now (bits .entry)) ⌝ }

@@ -3,12 +3,12 @@ use Prim.Native.Nat.{ℕ, zero, suc, _-_, _*_, _%_, _^_, _<_}
 use mathlib.Core.Bool.{Bool, true, false, not, cond, _||_, _&&_}
 use mathlib.Core.Path.{_≡_, refl, _∙_}
 use native.Mathlib.Omega.{arith}
-use lib.Bits.{bitOr, bitAnd, or-lt, and-le-l, and-le-r}
+use lib.Bits.{bitOr, bitAnd, or-lt, and-le-r}
 use lib.Dec.{eqb, eqb·suc-zero, eqb·zero-suc}
 use Rattle.model.proofs.Bitmaps.{bit-pow}
 use Rattle.model.specs.Bounded.{allBelow}
 use Rattle.audit_blocks.specs.Block.{on, follows, pointerRule}
-use Rattle.audit_blocks.proofs.Masks.{on-or, on-and, on-not, on-shift, zero-word, not-or, not-and-not, all-cong}
+use Rattle.audit_blocks.proofs.Masks.{on-or, on-and, on-not, on-shift, zero-word, masked-fits, not-or, not-and-not, all-cong}
 use borrow.Author.Needs.{needs}
 use Rattle.audit_blocks.proofs.pointers_ok.Statement.{statement}
 use Rattle.audit_blocks.proofs.pointers_ok.Tie as tie
@@ -22,9 +22,6 @@ module _ (a q starts inside before : ℕ) (ha : a < 2 ^ 64) (hq : q < 2 ^ 64) (h
       bitOr
       (bitOr (bitOr (bitAnd q ((2 ^ 64 - 1) - inside)) (bitAnd a ((2 ^ 64 - 1) - q))) (bitAnd (bitAnd q starts) ((2 ^ 64 - 1) - a)))
       (bitAnd (bitAnd q ((2 ^ 64 - 1) - starts)) ((2 ^ 64 - 1) - after))
-
-  small : (x y : ℕ) → x < 2 ^ 64 → bitAnd x y < 2 ^ 64
-  small x y h = omega (arith, and-le-l x y)
 
   after-fits : after < 2 ^ 64
   after-fits = or-lt 64 (q * 2 ^ 1 % 2 ^ 64) (bitAnd before 1) (omega arith) (omega (arith, and-le-r before 1))
@@ -49,7 +46,7 @@ module _ (a q starts inside before : ℕ) (ha : a < 2 ^ 64) (hq : q < 2 ^ 64) (h
   kept : eqb bad 0 ≡ allBelow 64 (pointerRule a q starts inside before)
   unfolding pointerRule
   kept =
-      zero-word bad (or-lt 64 _ _ (or-lt 64 _ _ (or-lt 64 _ _ (small q _ hq) (small a _ ha)) (small _ _ (small q _ hq))) (small _ _ (small q _ hq)))
+      zero-word bad (or-lt 64 _ _ (or-lt 64 _ _ (or-lt 64 _ _ (masked-fits q _ hq) (masked-fits a _ ha)) (masked-fits _ _ (masked-fits q _ hq))) (masked-fits _ _ (masked-fits q _ hq)))
       ∙ all-cong 64 (λ j. not (on bad j)) (pointerRule a q starts inside before)
       (λ j l. simp (
         on-or (bitOr (bitOr (bitAnd q ((2 ^ 64 - 1) - inside)) (bitAnd a ((2 ^ 64 - 1) - q))) (bitAnd (bitAnd q starts) ((2 ^ 64 - 1) - a))) (bitAnd (bitAnd q ((2 ^ 64 - 1) - starts)) ((2 ^ 64 - 1) - after)) j,
