@@ -41,7 +41,7 @@ finish() {
 
 c_example() {
   "${CC:-cc}" -std=c99 -O2 -Wall -Wextra -Werror -pedantic -Iinclude -o "$work/cycle" \
-    examples/cycle.c "$HEAP_ARCHIVE_DIR/libexports.a" &&
+    examples/cycle.c "$HEAP_ARCHIVE_DIR/libheap.a" &&
     "$work/cycle" > "$work/cycle.out"
   local status=$?
   tail -n 1 "$work/cycle.out"
@@ -49,12 +49,12 @@ c_example() {
 }
 
 if [ -z "${HEAP_ARCHIVE_DIR:-}" ]; then
-  part "archive" rt staticlib exports
+  part "archive" tools/archive
   export HEAP_ARCHIVE_DIR=$PWD/target/staticlib
 fi
 # without the archive nothing below can be linked
-if [ ! -f "$HEAP_ARCHIVE_DIR/libexports.a" ]; then
-  failed+=("no libexports.a to link")
+if [ ! -f "$HEAP_ARCHIVE_DIR/libheap.a" ]; then
+  failed+=("no libheap.a to link")
   finish
 fi
 

@@ -1,10 +1,10 @@
-//! Links the archive of the proved heap, libexports.a, to the programs that
+//! Links the archive of the proved heap, libheap.a, to the programs that
 //! call it. It is looked for in the folder that HEAP_ARCHIVE_DIR names, or
-//! where `rt staticlib exports` writes it.
+//! where `tools/archive` writes it.
 
 use std::path::{Path, PathBuf};
 
-const ARCHIVE: &str = "libexports.a";
+const ARCHIVE: &str = "libheap.a";
 const USUAL_FOLDER: &str = "../../target/staticlib";
 const CALLERS: [&str; 2] = ["compare", "measure"];
 
@@ -16,7 +16,7 @@ fn main() {
     println!("cargo:rerun-if-changed=build.rs");
     println!("cargo:rerun-if-changed={}", archive.display());
     if !archive.exists() {
-        println!("cargo:warning={} is not there: run `rt staticlib exports`", archive.display());
+        println!("cargo:warning={} is not there: run `tools/archive`", archive.display());
     }
     for caller in CALLERS {
         println!("cargo:rustc-link-arg-bin={caller}={}", archive.display());

@@ -10,11 +10,12 @@ use borrow.Author.Tests.{eqb-false, not-true}
 use Rattle.model.specs.Memory.{Heap, phaseAt, sweep}
 use Rattle.model.specs.Audit.{audit}
 use Rattle.model.proofs.Tests.{is-true, same-test}
-use Rattle.model.specs.Facts.{Spans, Sized, Bits, Phases, States, Occupied, Audited}
+use Rattle.model.specs.Facts.{Spans, Sized, Bits, States, Audited}
 use Rattle.model.specs.Lent.{RootReferences, AllSwept}
 use Rattle.model.proofs.Audit.{audit-facts, facts-audit}
 use Rattle.model.proofs.Lent.{sized-consistent}
 use Rattle.audit_pages.specs.Pass.{GoodPages}
+use Rattle.audit_bits.specs.Words.{GoodBits}
 use Rattle.audit_words.specs.Contents.{Filled, Told, Contents}
 
 module _ (h : Heap) (Z : Sized h) where
@@ -34,11 +35,10 @@ module _ (h : Heap) (Z : Sized h) where
   pub filled : Spans (h .pages) (h .table) → Bits (h .pages) (h .table) (h .bits) → Filled (h .pages) (h .arena) (h .table) (h .bits)
   filled F B = record { consistent = sized-consistent Z F B; arena = Z .arena }
 
-  pub joined : States (h .roots) → GoodPages (h .pages) (getD (h .roots) phaseAt 0) (h .table) →
-      Bits (h .pages) (h .table) (h .bits) × Phases (h .pages) (getD (h .roots) phaseAt 0) (h .table) (h .bits) → Occupied (h .pages) (h .table) (h .bits) →
+  pub joined : States (h .roots) → GoodPages (h .pages) (getD (h .roots) phaseAt 0) (h .table) → GoodBits (h .pages) (getD (h .roots) phaseAt 0) (h .table) (h .bits) →
       RootReferences (h .pages) (h .table) (h .bits) (h .roots) → Contents (h .pages) (h .arena) (h .table) (h .bits) → Audited h
-  joined S F B O R C =
-      record { sized = Z; spans = F .spans; bits = B .0; phases = B .1; references = record { root = R; content = C }; states = S; occupied = O }
+  joined S F B R C =
+      record { sized = Z; spans = F .spans; bits = B .rules; phases = B .phases; references = record { root = R; content = C }; states = S; occupied = B .occupied }
 
 -- outside the sweep phase no span is unswept
 pub told : (phase : ℕ) (t : List ℕ) → (phase ≢ sweep → AllSwept t) → Told (not (eqb phase sweep)) t
@@ -47,3 +47,7 @@ told phase t h e = h (eqb-false phase sweep (not-true (eqb phase sweep) e))
 -- what the page table's part says of an audited heap
 pub paged : (h : Heap) → Audited h → GoodPages (h .pages) (getD (h .roots) phaseAt 0) (h .table)
 paged h F = record { spans = F .spans; swept = F .phases .swept }
+
+-- .. and the bits' part
+pub ruled : (h : Heap) → Audited h → GoodBits (h .pages) (getD (h .roots) phaseAt 0) (h .table) (h .bits)
+ruled h F = record { rules = F .bits; phases = F .phases; occupied = F .occupied }

@@ -1,12 +1,14 @@
 -- The entry check: what its two refusals and its acceptance are.
-use Prim.Native.Nat.{_*_, _≤_}
+use Prim.Native.Nat.{ℕ, _*_, _≤_}
 use mathlib.Core.Bool.{Bool, true, false}
-use mathlib.Core.Logic.{_↔_}
+use mathlib.Core.Logic.{_↔_, _≢_}
 use mathlib.Core.Path.{_≡_, refl}
 use lib.Dec.{T, eqb}
 use lib.ListN.{length}
+use borrow.Author.Tests.{ne-eqb}
 use Rattle.model.specs.Memory.{Heap, goodBuffers, rootWords, pageWords, maxPages, bitmapWords}
 use Rattle.model.specs.Answers.{badBuffers, damaged, _given_, _orElse_}
+use Rattle.model.specs.Checks.{buffersRefusal}
 use Rattle.model.specs.Audit.{audit}
 use Rattle.model.specs.Calls.{entry}
 use Rattle.model.proofs.Tests.{is-true, of-true, eqb-iff}
@@ -20,18 +22,29 @@ module _ (h : Heap) where
   last-length l m a t b =
       (λ x. record { low = l; high = m; arena = a; table = t; bits = b; roots = eqb-iff (length (h .roots)) rootWords .0 x }, λ Z. eqb-iff (length (h .roots)) rootWords .1 (Z .roots))
 
-  pub bad-buffers : (Sized h → ⊥) → badBuffers ≡ entry h
-  unfolding entry _given_ _orElse_
-  bad-buffers f = rw (no (goodBuffers h) refl)
+  not-good : (Sized h → ⊥) → goodBuffers h ≡ false
+  not-good f = go (goodBuffers h) refl
     where
-      no : (b : Bool) → goodBuffers h ≡ b → goodBuffers h ≡ false
-      no true e = absurd (f (sized h (is-true _ e)))
-      no false e = e
+      go : (b : Bool) → goodBuffers h ≡ b → goodBuffers h ≡ false
+      go true e = absurd (f (sized h (is-true _ e)))
+      go false e = e
 
-  pub damaged-buffers : Sized h → audit h ≡ false → damaged ≡ entry h
-  unfolding entry _given_ _orElse_
-  damaged-buffers Z e = rw (of-true (goodBuffers h) (sized-good h Z), e)
+  pub bad-lengths : (Sized h → ⊥) → badBuffers ≡ buffersRefusal h
+  unfolding _given_
+  bad-lengths f = rw (not-good f)
 
-  pub good-entry : Sized h → audit h ≡ true → 0 ≡ entry h
+  pub good-lengths : Sized h → 0 ≡ buffersRefusal h
+  unfolding _given_
+  good-lengths Z = rw (of-true (goodBuffers h) (sized-good h Z))
+
+  pub refused-lengths : {n : ℕ} → n ≡ buffersRefusal h → n ≢ 0 → n ≡ entry h
+  unfolding entry _orElse_
+  refused-lengths {n} e f = rw (← e, ne-eqb n 0 f) refl
+
+  pub damaged-buffers : buffersRefusal h ≡ 0 → audit h ≡ false → damaged ≡ entry h
   unfolding entry _given_ _orElse_
-  good-entry Z e = rw (of-true (goodBuffers h) (sized-good h Z), e)
+  damaged-buffers z e = rw (z, e) refl
+
+  pub good-entry : buffersRefusal h ≡ 0 → audit h ≡ true → 0 ≡ entry h
+  unfolding entry _given_ _orElse_
+  good-entry z e = rw (z, e) refl

@@ -1,6 +1,6 @@
 -- A block: its tests by whole words are the rules of each of its words.
-use Prim.Native.Nat.{ℕ, _+_, _-_, _*_, _<_}
-use mathlib.Core.Bool.{Bool, true, false, not, _&&_}
+use Prim.Native.Nat.{ℕ, _+_, _-_, _*_, _^_, _<_}
+use mathlib.Core.Bool.{Bool, true, false, not, cond, _&&_}
 use mathlib.Core.List.{List}
 use mathlib.Core.Path.{_≡_, refl, sym, _∙_}
 use native.Mathlib.Omega.{arith}
@@ -16,7 +16,8 @@ use Rattle.model.specs.Facts.{bit}
 use Rattle.audit_blocks.specs.Block.{on, rule, pointerRule}
 use Rattle.audit_blocks.proofs.Masks.{on-and, all-cong}
 use Rattle.audit_bits.specs.Rules.{bare, keeps, blockRule}
-use Rattle.audit_bits.proofs.Masks.{allocated-on, marked-on, gray-on, pointer-on}
+use Rattle.audit_bits.specs.declared.Allowed.{Allowed}
+use Rattle.audit_bits.proofs.Masks.{on-flag, allocated-on, marked-on, gray-on, pointer-on}
 
 -- two tests of all numbers below n
 pub all-and : (n : ℕ) (s t : ℕ → Bool) → (allBelow n s && allBelow n t) ≡ allBelow n (λ k. s k && t k)
@@ -41,29 +42,39 @@ bare-keeps false false true q s i mk gr sc f t = absurd t
 bare-keeps false true g q s i mk gr sc f t = absurd t
 bare-keeps true m g q s i mk gr sc f t = absurd t
 
-module _ (P : ℕ) (b : List ℕ) (at starts off left before marks grays scans : ℕ) where
-  pub empty-keeps : true ≡ allBelow 64 (λ j. bare P b (64 * at + j)) → true ≡ allBelow 64 (blockRule P b at starts off left before marks grays scans)
+module _ (P : ℕ) (b : List ℕ) (at starts off left before : ℕ) (allowed : Allowed) where
+  pub empty-keeps : true ≡ allBelow 64 (λ j. bare P b (64 * at + j)) → true ≡ allBelow 64 (blockRule P b at starts off left before allowed)
   unfolding bare
   empty-keeps e =
-      sym (all-from 64 (blockRule P b at starts off left before marks grays scans)
+      sym (all-from 64 (blockRule P b at starts off left before allowed)
       (λ j l. bare-keeps (bit P allocated b (64 * at + j)) (bit P marked b (64 * at + j)) (bit P gray b (64 * at + j)) (bit P pointer b (64 * at + j)) _ _ _ _ _ _ (is-true _ (all-at 64 (λ j. bare P b (64 * at + j)) (sym e) j l))))
 
-  module _ (h : at < pageBlocks * P) (first inside : ℕ) (fs : (j : ℕ) → j < 64 → on first j ≡ (leb off j && on starts (j - off))) (is : (j : ℕ) → j < 64 → on inside j ≡ ltb j left) where
+  module _ (h : at < pageBlocks * P) (marks grays scans : ℕ) (ms : marks ≡ cond (allowed .marks) (2 ^ 64 - 1) 0) (gs : grays ≡ cond (allowed .grays) (2 ^ 64 - 1) 0)
+      (ps : scans ≡ cond (allowed .pointers) (2 ^ 64 - 1) 0) (first inside : ℕ) (fs : (j : ℕ) → j < 64 → on first j ≡ (leb off j && on starts (j - off))) (is : (j : ℕ) → j < 64 → on inside j ≡ ltb j left) where
     abbrev colours : ℕ → Bool
-    colours = rule (getD b at 0) (getD b (pageBlocks * P + at) 0) (getD b (2 * (pageBlocks * P) + at) 0) (bitAnd first inside) marks grays
+    colours = rule (getD b at 0) (getD b (1 * (pageBlocks * P) + at) 0) (getD b (2 * (pageBlocks * P) + at) 0) (bitAnd first inside) marks grays
 
     abbrev pointers : ℕ → Bool
     pointers = pointerRule (bitAnd (getD b at 0) scans) (getD b (3 * (pageBlocks * P) + at) 0) (bitAnd first inside) (bitAnd inside scans) before
 
-    pub block-is : (allBelow 64 colours && allBelow 64 pointers) ≡ allBelow 64 (blockRule P b at starts off left before marks grays scans)
+    on-marks : (j : ℕ) → j < 64 → on marks j ≡ allowed .marks
+    on-marks j l = rw ms (on-flag (allowed .marks) j l)
+
+    on-grays : (j : ℕ) → j < 64 → on grays j ≡ allowed .grays
+    on-grays j l = rw gs (on-flag (allowed .grays) j l)
+
+    on-scans : (j : ℕ) → j < 64 → on scans j ≡ allowed .pointers
+    on-scans j l = rw ps (on-flag (allowed .pointers) j l)
+
+    block-is : (allBelow 64 colours && allBelow 64 pointers) ≡ allBelow 64 (blockRule P b at starts off left before allowed)
     unfolding rule pointerRule keeps
     block-is =
         all-and 64 colours pointers
-        ∙ all-cong 64 (λ j. colours j && pointers j) (blockRule P b at starts off left before marks grays scans)
-        (λ j l. simp (on-and, allocated-on P b at h j l, marked-on P b at h j l, gray-on P b at h j l, pointer-on P b at h j l, pointer-on P b at h (j - 1) (omega arith), fs j l, is j l))
+        ∙ all-cong 64 (λ j. colours j && pointers j) (blockRule P b at starts off left before allowed)
+        (λ j l. simp (on-and, allocated-on P b at h j l, marked-on P b at h j l, gray-on P b at h j l, pointer-on P b at h j l, pointer-on P b at h (j - 1) (omega arith), fs j l, is j l, on-marks j l, on-grays j l, on-scans j l))
 
-    pub colours-fail : {r : Bool} → r ≡ allBelow 64 colours → r ≡ false → false ≡ allBelow 64 (blockRule P b at starts off left before marks grays scans)
+    pub colours-fail : {r : Bool} → r ≡ allBelow 64 colours → r ≡ false → false ≡ allBelow 64 (blockRule P b at starts off left before allowed)
     colours-fail e f = rw (sym e ∙ f) at block-is
 
-    pub colours-pass : {r s : Bool} → r ≡ allBelow 64 colours → r ≡ true → s ≡ allBelow 64 pointers → s ≡ allBelow 64 (blockRule P b at starts off left before marks grays scans)
+    pub colours-pass : {r s : Bool} → r ≡ allBelow 64 colours → r ≡ true → s ≡ allBelow 64 pointers → s ≡ allBelow 64 (blockRule P b at starts off left before allowed)
     colours-pass e f g = g ∙ (rw (sym e ∙ f) at block-is)

@@ -32,6 +32,11 @@ on-all j l = rw (bit-all 64 j l)
 pub on-none : (j : ℕ) → on 0 j ≡ false
 on-none j = rw (bit-none j)
 
+-- a mask for all words or for none
+pub on-flag : (c : Bool) (j : ℕ) → j < 64 → on (cond c (2 ^ 64 - 1) 0) j ≡ c
+on-flag true j l = on-all j l
+on-flag false j l = on-none j
+
 -- a mask moved up
 pub on-up : (x off j : ℕ) → j < 64 → on (x * 2 ^ off % 2 ^ 64) j ≡ (leb off j && on x (j - off))
 on-up x off j l = rw (bit-shifted x 64 off j l) (go (leb off j))
@@ -55,8 +60,8 @@ module _ (P : ℕ) (b : List ℕ) (at : ℕ) (h : at < pageBlocks * P) where
   pub allocated-on : (j : ℕ) → j < 64 → on (getD b at 0) j ≡ bit P allocated b (64 * at + j)
   allocated-on j l = part-on allocated at j l (omega arith)
 
-  pub marked-on : (j : ℕ) → j < 64 → on (getD b (pageBlocks * P + at) 0) j ≡ bit P marked b (64 * at + j)
-  marked-on j l = part-on marked (pageBlocks * P + at) j l (omega arith)
+  pub marked-on : (j : ℕ) → j < 64 → on (getD b (1 * (pageBlocks * P) + at) 0) j ≡ bit P marked b (64 * at + j)
+  marked-on j l = part-on marked (1 * (pageBlocks * P) + at) j l (omega arith)
 
   pub gray-on : (j : ℕ) → j < 64 → on (getD b (2 * (pageBlocks * P) + at) 0) j ≡ bit P gray b (64 * at + j)
   gray-on j l = part-on gray (2 * (pageBlocks * P) + at) j l (omega arith)
@@ -65,8 +70,8 @@ module _ (P : ℕ) (b : List ℕ) (at : ℕ) (h : at < pageBlocks * P) where
   pointer-on j l = part-on pointer (3 * (pageBlocks * P) + at) j l (omega arith)
 
   pub empty-block : ((i : ℕ) → getD b i 0 < 2 ^ 64) →
-      eqb (bitOr (bitOr (bitOr (getD b at 0) (getD b (pageBlocks * P + at) 0)) (getD b (2 * (pageBlocks * P) + at) 0)) (getD b (3 * (pageBlocks * P) + at) 0)) 0 ≡ allBelow 64 (λ j. bare P b (64 * at + j))
+      eqb (bitOr (bitOr (bitOr (getD b at 0) (getD b (1 * (pageBlocks * P) + at) 0)) (getD b (2 * (pageBlocks * P) + at) 0)) (getD b (3 * (pageBlocks * P) + at) 0)) 0 ≡ allBelow 64 (λ j. bare P b (64 * at + j))
   unfolding bare
   empty-block f =
-      zero-word _ (or-lt 64 _ _ (or-lt 64 _ _ (or-lt 64 _ _ (f at) (f (pageBlocks * P + at))) (f (2 * (pageBlocks * P) + at))) (f (3 * (pageBlocks * P) + at)))
+      zero-word _ (or-lt 64 _ _ (or-lt 64 _ _ (or-lt 64 _ _ (f at) (f (1 * (pageBlocks * P) + at))) (f (2 * (pageBlocks * P) + at))) (f (3 * (pageBlocks * P) + at)))
       ∙ all-cong 64 _ (λ j. bare P b (64 * at + j)) (λ j l. simp (on-or, not-or, allocated-on j l, marked-on j l, gray-on j l, pointer-on j l))

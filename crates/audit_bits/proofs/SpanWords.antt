@@ -9,15 +9,20 @@ use native.Mathlib.Omega.{arith}
 use native.Mathlib.Nat.{div-add-mod', div-lt-iff-lt-mul, zero-mod, mod-lt, mod-eq-of-lt, mul-add-mod-self-right}
 use lib.Dec.{T, eqb, ltb}
 use borrow.Author.Tests.{eqb-true, eqb-false, ne-eqb}
-use Rattle.model.specs.Memory.{pageWords, off, mark, sweep}
+use Rattle.model.specs.Memory.{pageWords, firstWord, off, mark, sweep}
 use Rattle.model.specs.Bitmaps.{allocated, marked, gray, pointer}
 use Rattle.model.specs.Spans.{owner, pageCount, isScan, isUnswept, spanOf, elementOf, elementNumber, elementWords, elements}
 use Rattle.model.proofs.Tests.{and-iff, or-iff, eqb-iff, ltb-iff, of-true}
 use Rattle.model.proofs.Rules.{tests}
 use Rattle.model.specs.Facts.{Spans, IsSpan, InElement, Element, bit, scanAt, unsweptAt}
 use Rattle.model.proofs.Spans.{at-home, fits}
-use Rattle.audit_bits.specs.Rules.{bare, keeps, marksStand, spanRule}
+use Rattle.audit_bits.specs.Rules.{bare, keeps, marksStand, allowedIn, wordRule}
 use Rattle.audit_bits.specs.Words.{WordBits}
+
+-- the rules for word o of the span at page s
+abbrev pub ruleAt : ℕ → ℕ → List ℕ → List ℕ → ℕ → ℕ → Bool
+ruleAt P phase t b s =
+    wordRule P b (firstWord s) (elementWords t s) (elements t s * elementWords t s) (allowedIn phase (isScan t s) (isUnswept t s))
 
 -- the word before one that is not an element's first lies in the same element
 before-mod : (o n r : ℕ) → 0 < n → o % n ≡ suc r → (o - 1) % n ≡ r
@@ -108,7 +113,7 @@ module _ {P : ℕ} {t : List ℕ} (F : Spans P t) (s : ℕ) (i : IsSpan t s) whe
     point o = bit P pointer b (pageWords * s + o)
 
     -- every word of the span keeps its rules
-    module _ (K : (o : ℕ) → o < pageWords * pageCount t s → T (spanRule P phase t b s o)) where
+    module _ (K : (o : ℕ) → o < pageWords * pageCount t s → T (ruleAt P phase t b s o)) where
       kept : (o : ℕ) → o < pageWords * pageCount t s →
           Kept (bit P allocated b (pageWords * s + o)) (bit P marked b (pageWords * s + o)) (bit P gray b (pageWords * s + o)) (bit P pointer b (pageWords * s + o))
           (eqb (o % elementWords t s) 0 && ltb o (elements t s * elementWords t s)) (ltb o (elements t s * elementWords t s))
@@ -170,7 +175,7 @@ module _ {P : ℕ} {t : List ℕ} (F : Spans P t) (s : ℕ) (i : IsSpan t s) whe
               rw e (x .1)
 
     -- and back, word by word
-    pub words-span : phase ≤ sweep → (o : ℕ) → o < pageWords * pageCount t s → WordBits P phase t b (pageWords * s + o) → T (spanRule P phase t b s o)
+    pub words-span : phase ≤ sweep → (o : ℕ) → o < pageWords * pageCount t s → WordBits P phase t b (pageWords * s + o) → T (ruleAt P phase t b s o)
     words-span legal o l W = facts-keeps (record { starts = starts; marked = marking; grayed = grayed; lies = lies; head = head; first = first; next = next })
       where
         n : ℕ

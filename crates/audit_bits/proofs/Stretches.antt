@@ -1,90 +1,45 @@
--- The way over the pages: from a free page or a span to the next, with what the tests of each say together.
-use Prim.Native.Nat.{ℕ, _+_, _-_, _*_, _/_, _%_, _<_, _≤_}
-use mathlib.Core.Bool.{Bool, true, false, cond}
+-- The way over the pages: what the tests of a free page and of a span say, and the steps together.
+use Prim.Native.Nat.{ℕ, _+_, _-_, _*_, _/_, _<_, _≤_}
+use mathlib.Core.Bool.{Bool, true, false, not}
 use mathlib.Core.List.{List}
-use mathlib.Core.Logic.{_≢_, _↔_}
-use mathlib.Core.Path.{_≡_, refl, sym, _∙_, ap}
+use mathlib.Core.Logic.{_↔_}
+use mathlib.Core.Path.{_≡_, refl, _∙_, ap}
 use native.Mathlib.Omega.{arith}
 use lib.Dec.{T, eqb, ltb}
 use borrow.Author.Tests.{ltb-true, ltb-false, eqb-true, eqb-false, ne-eqb}
-use Rattle.model.specs.Classes.{rows, mostLarge}
-use Rattle.model.specs.Memory.{pageWords, pageBlocks, unsweptFlag, mark, sweep}
+use Rattle.model.specs.Memory.{pageWords, pageBlocks, mark, sweep}
 use Rattle.model.specs.Bounded.{allBelow, firstBelow}
 use Rattle.model.specs.Bitmaps.{bitAt, allocated, marked, gray, pointer}
-use Rattle.model.specs.Spans.{owner, pageCount, kindEntry, spanOf, elementWords, elements}
+use Rattle.model.specs.Spans.{owner, pageCount}
+use Rattle.model.proofs.Answers.{yes, no}
 use Rattle.model.proofs.Tests.{is-true, of-true, clash}
 use Rattle.model.proofs.Bitmaps.{bit-in, bit-inside}
 use Rattle.model.proofs.Bounded.{all-iff, first-props}
-use Rattle.model.specs.Facts.{Spans, IsSpan, bit, Bits, Phases, Occupied}
+use Rattle.model.specs.Facts.{Spans, IsSpan, bit, Bits, Phases}
 use Rattle.model.proofs.Spans.{at-home, in-span, fits}
-use Rattle.audit_bits.specs.Needs.{Begins, Phased}
+use Rattle.page_table.specs.Span.{Reads}
+use Rattle.page_table.specs.declared.Span.{Span}
+use Rattle.audit_pages.specs.Stretch.{stretch}
+use Rattle.audit_bits.specs.Needs.{Phased, Fits}
 use Rattle.audit_bits.specs.Rules.{bare, spanRule}
-use Rattle.audit_bits.specs.Words.{WordBits, GoodWords, Used, stretch}
-use Rattle.audit_bits.proofs.SpanWords.{span-words, words-span, bare-word, word-bare}
+use Rattle.audit_bits.specs.Words.{WordBits, GoodWords, GoodBits, Used, SetBetween, PassedBits}
+use Rattle.audit_bits.proofs.SpanWords.{ruleAt, span-words, words-span, bare-word, word-bare}
 
--- a span lies in the arena, and its elements in it
-pub record SpanAt (P : ℕ) (t : List ℕ) (s : ℕ) : Type 0 where
-  pub low : s < P
-  pub inside : s + pageCount t s ≤ P
-  pub some : 0 < pageCount t s
-  pub short : pageCount t s ≤ mostLarge
-  pub class : kindEntry t s % unsweptFlag / 2 ≤ rows
-  pub words : 0 < elementWords t s
-  pub held : elements t s * elementWords t s ≤ pageWords * pageCount t s
-
--- no span lies on both sides of the beginning of page g
-abbrev pub Edge : List ℕ → ℕ → Type 0
-Edge t g = (h : ℕ) → g ≤ h → 0 < owner t h → g ≤ owner t h - 1
-
--- the next such page
-pub record NextStretch (P : ℕ) (t : List ℕ) (g : ℕ) : Type 0 where
-  pub edge : Edge t (g + stretch t g)
-  pub inside : g + stretch t g ≤ P
-  pub some : 0 < stretch t g
-
-module _ {P : ℕ} {t : List ℕ} (F : Spans P t) where
-  pub span-at : (s : ℕ) → IsSpan t s → SpanAt P t s
-  span-at s i =
+-- the span at page s, as its entry describes it: it lies in the arena, its elements in it, and its rules are those of its words
+module _ {t : List ℕ} {s : ℕ} {r : Span} (R : Reads t s r) where
+  pub read-fits : {P : ℕ} → Spans P t → IsSpan t s → Fits P r
+  read-fits F i =
       let f = fits F s i in
-      let l = F .inside s i in
-      record { low = omega arith; inside = l; some = f .pages; short = f .short; class = omega (arith, F .entry s i .kind); words = f .words; held = f .inside }
+      record {
+        inside = rw (R .start, R .pages) (F .inside s i);
+        short = rw (R .pages) (f .short);
+        class = rw (R .class) (omega (arith, F .entry s i .kind));
+        words = rw (R .class, R .pages) (f .words);
+        held = rw (R .class, R .pages) (f .inside);
+      }
 
-  pub edge-first : Edge t 0
-  edge-first h a u = omega arith
-
-  pub edge-begins : (g : ℕ) → g < P → Edge t g → Begins P t g
-  edge-begins g l e = record { low = l; first = λ u. omega (arith, e g (omega arith) u, F .whose g u .1) }
-
-  pub next : (g : ℕ) → Edge t g → Begins P t g → NextStretch P t g
-  next g e B = go (eqb (owner t g) 0) refl
-    where
-      go : (c : Bool) → eqb (owner t g) 0 ≡ c → NextStretch P t g
-      go true p = record { edge = edge; inside = rw p (omega (arith, B .low)); some = rw p (omega arith) }
-        where
-          edge : Edge t (g + stretch t g)
-          edge h a u =
-              let l : g + 1 ≤ h = rw p at a in
-              let f = F .whose h u in
-              let d : owner t h - 1 ≢ g = λ z. absurd (omega (arith, eqb-true (owner t g) 0 p, rw z at (f .0))) in
-              rw p (omega (arith, e h (omega arith) u))
-      go false p = record { edge = edge; inside = rw p (F .inside g i); some = rw p (fits F g i .pages) }
-        where
-          i : IsSpan t g
-          i = B .first (omega (arith, eqb-false (owner t g) 0 p))
-
-          edge : Edge t (g + stretch t g)
-          edge h a u = rw p (late (ltb (owner t h - 1) (g + pageCount t g)) refl)
-            where
-              l : g + pageCount t g ≤ h
-              l = rw p at a
-
-              late : (c : Bool) → ltb (owner t h - 1) (g + pageCount t g) ≡ c → g + pageCount t g ≤ owner t h - 1
-              late true q =
-                  let f = F .whose h u in
-                  let m = ltb-true (owner t h - 1) (g + pageCount t g) q in
-                  let z : owner t h - 1 ≡ g = omega (arith, F .body g (owner t h - 1) i (e h (omega (arith, l, fits F g i .pages)) u) m) in
-                  absurd (omega (arith, l, rw z at (f .2)))
-              late false q = ltb-false (owner t h - 1) (g + pageCount t g) q
+  read-rule : (P phase : ℕ) (b : List ℕ) → allBelow (64 * (pageBlocks * r .pages)) (spanRule P phase b r) ≡ allBelow (64 * (pageBlocks * pageCount t s)) (ruleAt P phase t b s)
+  read-rule P phase b = rw (R .start, R .class, R .pages, R .scan, R .unswept)
 
 -- the tests of a free page, and of a span, say what the audit says of their words
 module _ {P phase : ℕ} {t b : List ℕ} where
@@ -99,18 +54,18 @@ module _ {P phase : ℕ} {t b : List ℕ} where
       back : GoodWords P phase t b (pageWords * g) (pageWords * (g + 1)) → T (allBelow pageWords (λ o. bare P b (pageWords * g + o)))
       back W = all-iff pageWords (λ o. bare P b (pageWords * g + o)) .1 (λ o l. let z : (pageWords * g + o) / pageWords ≡ g = omega arith in word-bare (pageWords * g + o) (ap (owner t) z ∙ e) (W (pageWords * g + o) (omega arith) (omega arith)))
 
-  pub span-good : Spans P t → phase ≤ sweep → (g : ℕ) → IsSpan t g → (r : Bool) → r ≡ allBelow (64 * (pageBlocks * pageCount t g)) (spanRule P phase t b g) →
+  pub span-good : {g : ℕ} {x : Span} → Reads t g x → Spans P t → phase ≤ sweep → IsSpan t g → (r : Bool) → r ≡ allBelow (64 * (pageBlocks * x .pages)) (spanRule P phase b x) →
       T r ↔ GoodWords P phase t b (pageWords * g) (pageWords * (g + stretch t g))
-  span-good F legal g i r p = rw (p, ne-eqb (owner t g) 0 (omega arith)) (there, back)
+  span-good {g} R F legal i r p = rw (p, read-rule R P phase b, ne-eqb (owner t g) 0 (omega arith)) (there, back)
     where
-      there : T (allBelow (64 * (pageBlocks * pageCount t g)) (spanRule P phase t b g)) → GoodWords P phase t b (pageWords * g) (pageWords * (g + pageCount t g))
+      there : T (allBelow (64 * (pageBlocks * pageCount t g)) (ruleAt P phase t b g)) → GoodWords P phase t b (pageWords * g) (pageWords * (g + pageCount t g))
       there x w a l =
           let z : pageWords * g + (w - pageWords * g) ≡ w = omega arith in
-          rw z at (span-words F g i phase b (λ o m. all-iff (64 * (pageBlocks * pageCount t g)) (spanRule P phase t b g) .0 x o (omega arith)) (w - pageWords * g) (omega arith))
+          rw z at (span-words F g i phase b (λ o m. all-iff (64 * (pageBlocks * pageCount t g)) (ruleAt P phase t b g) .0 x o (omega arith)) (w - pageWords * g) (omega arith))
 
-      back : GoodWords P phase t b (pageWords * g) (pageWords * (g + pageCount t g)) → T (allBelow (64 * (pageBlocks * pageCount t g)) (spanRule P phase t b g))
+      back : GoodWords P phase t b (pageWords * g) (pageWords * (g + pageCount t g)) → T (allBelow (64 * (pageBlocks * pageCount t g)) (ruleAt P phase t b g))
       back W =
-          all-iff (64 * (pageBlocks * pageCount t g)) (spanRule P phase t b g) .1 (λ o l. words-span F g i phase b legal o (omega arith) (W (pageWords * g + o) (omega arith) (omega arith)))
+          all-iff (64 * (pageBlocks * pageCount t g)) (ruleAt P phase t b g) .1 (λ o l. words-span F g i phase b legal o (omega arith) (W (pageWords * g + o) (omega arith) (omega arith)))
 
   -- one stretch more
   pub good-more : (g n : ℕ) → GoodWords P phase t b 0 (pageWords * g) → GoodWords P phase t b (pageWords * g) (pageWords * (g + n)) → GoodWords P phase t b 0 (pageWords * (g + n))
@@ -121,23 +76,24 @@ module _ {P phase : ℕ} {t b : List ℕ} where
       go false p = B w (ltb-false w (pageWords * g) p) l
 
   -- the words of the whole arena
-  pub words-facts : Phased phase t → GoodWords P phase t b 0 (pageWords * P) → Bits P t b × Phases P phase t b
-  words-facts H A = (
-    record {
+  pub words-facts : Spans P t → Phased phase t → GoodWords P phase t b 0 (pageWords * P) → ((s : ℕ) → s < P → Used P t b s) → GoodBits P phase t b
+  words-facts F H A U = record {
+    rules = record {
       element = λ w x. good w allocated x .element x;
       marks = λ w x. good w marked x .marks x .0;
       grays = λ w x. let y = good w gray x .grays x in (y .0, y .1);
       pointers = λ w x. good w pointer x .pointers x;
       head = λ w x. good w allocated x .head x;
       unbroken = λ w x. good w pointer x .unbroken x;
-    },
-    record {
+    };
+    phases = record {
       none = λ e w. off marked w (λ x. good w marked x .marks x .1 e);
       swept = H .swept;
       plain = λ d w. off gray w (λ x. d (good w gray x .grays x .2));
       unswept = λ e w x. good w marked x .marks x .2 e;
-    },
-  )
+    };
+    occupied = λ s i. U s (omega (arith, F .inside s i, fits F s i .pages)) i;
+  }
     where
       good : (w : ℕ) (q : Rattle.model.specs.Bitmaps.Part) → T (bit P q b w) → WordBits P phase t b w
       good w q x = A w (omega arith) (bit-inside (pageWords * P) q b w x)
@@ -166,51 +122,74 @@ module _ {P phase : ℕ} {t b : List ℕ} where
           go true e = eqb-true phase mark e
           go false e = clash (bit P gray b w) (of-true _ x) (H .plain (eqb-false phase mark e) w)
 
--- the spans that have an allocated word
+-- a span has an allocated word where one of its own words is
 module _ {P : ℕ} {t : List ℕ} (F : Spans P t) (b : List ℕ) where
-  pub free-used : (g : ℕ) → owner t g ≡ 0 → T true ↔ Used P t b g
-  free-used g e = (λ _ i. absurd (omega arith), λ _. tt)
+  pub set-used : (g : ℕ) → IsSpan t g → SetBetween b (pageWords * g) (pageWords * (g + pageCount t g)) → Used P t b g
+  set-used g i (w, l, m, x) _ =
+      (w, is-true _ (bit-in (pageWords * P) allocated b w (omega (arith, F .inside g i)) ∙ of-true _ x), at-home F g w i l m .1)
 
-  pub span-used : Bits P t b → (g : ℕ) → IsSpan t g → (r : ℕ) →
-      r ≡ pageWords * g + firstBelow (pageWords * (g + pageCount t g) - pageWords * g) (λ k. bitAt b (pageWords * g + k)) → T (ltb r (pageWords * (g + pageCount t g))) ↔ Used P t b g
-  span-used B g i r e = (there, back)
-    where
-      there : T (ltb r (pageWords * (g + pageCount t g))) → Used P t b g
-      there x j =
-          let f = first-props (pageWords * (g + pageCount t g) - pageWords * g) (λ k. bitAt b (pageWords * g + k)) in
-          let l = ltb-true r (pageWords * (g + pageCount t g)) (of-true _ x) in
-          let q : bitAt b r ≡ true = ap (bitAt b) e ∙ f .holds (omega arith) in
-          (r, is-true _ (bit-in (pageWords * P) allocated b r (omega (arith, F .inside g i)) ∙ q), at-home F g r i (omega arith) l .1)
+  pub used-set : {phase : ℕ} → ((w : ℕ) → WordBits P phase t b w) → (g : ℕ) → IsSpan t g → Used P t b g → SetBetween b (pageWords * g) (pageWords * (g + pageCount t g))
+  used-set A g i U =
+      let u = U i in
+      let w = u .0 in
+      let h = rw (u .2) at (in-span F w (A w .element (u .1) .lies .used)) in
+      (w, h .0, h .1, rw (← bit-in (pageWords * P) allocated b w (bit-inside (pageWords * P) allocated b w (u .1))) (u .1))
 
-      back : Used P t b g → T (ltb r (pageWords * (g + pageCount t g)))
-      back U = go (ltb r (pageWords * (g + pageCount t g))) refl
-        where
-          u : (w : ℕ) × T (bit P allocated b w) × (spanOf t w ≡ g)
-          u = U i
+-- the first set bit stands before the end
+set-first : (b : List ℕ) (from to r : ℕ) → from ≤ to → r ≡ from + firstBelow (to - from) (λ k. bitAt b (from + k)) → T (ltb r to) ↔ SetBetween b from to
+set-first b from to r l e = (there, back)
+  where
+    there : T (ltb r to) → SetBetween b from to
+    there x =
+        let f = first-props (to - from) (λ k. bitAt b (from + k)) in
+        let m = ltb-true r to (of-true _ x) in
+        (r, omega arith, m, is-true _ (ap (bitAt b) e ∙ f .holds (omega arith)))
 
-          go : (c : Bool) → ltb r (pageWords * (g + pageCount t g)) ≡ c → T c
-          go true p = tt
-          go false p =
-              let f = first-props (pageWords * (g + pageCount t g) - pageWords * g) (λ k. bitAt b (pageWords * g + k)) in
-              let w = u .0 in
-              let h = rw (u .2) at (in-span F w (B .element w (u .1) .lies .used)) in
-              let z : pageWords * g + (w - pageWords * g) ≡ w = omega arith in
-              clash (bitAt b w) (sym (bit-in (pageWords * P) allocated b w (bit-inside (pageWords * P) allocated b w (u .1))) ∙ of-true _ (u .1))
-              (rw z at (f .before (w - pageWords * g) (omega (arith, ltb-false r (pageWords * (g + pageCount t g)) p))))
+    back : SetBetween b from to → T (ltb r to)
+    back (w, m, n, x) = go (ltb r to) refl
+      where
+        go : (c : Bool) → ltb r to ≡ c → T c
+        go true p = tt
+        go false p =
+            let f = first-props (to - from) (λ k. bitAt b (from + k)) in
+            let z : from + (w - from) ≡ w = omega arith in
+            clash (bitAt b w) (of-true _ x) (rw z at (f .before (w - from) (omega (arith, ltb-false r to p))))
 
-  pub used-more : (g : ℕ) → Begins P t g → ((s : ℕ) → s < g → Used P t b s) → Used P t b g → (s : ℕ) → s < g + stretch t g → Used P t b s
-  used-more g B A U s l i = go (ltb s g) refl (ltb g s) refl
-    where
-      inner : g < s → (c : Bool) → eqb (owner t g) 0 ≡ c → s < g + cond c 1 (pageCount t g) → ⊥
-      inner m true p k = omega arith
-      inner m false p k = omega (arith, F .body g s (B .first (omega (arith, eqb-false (owner t g) 0 p))) (omega arith) k)
+pub set-found : (b : List ℕ) (from to first last r : ℕ) → first ≡ from → last ≡ to → from ≤ to → r ≡ first + firstBelow (last - first) (λ k. bitAt b (first + k)) →
+    T (ltb r last) ↔ SetBetween b from to
+set-found b from to first last r p q l e = rw q (set-first b from to r l (rw (p, q) at e))
 
-      go : (c : Bool) → ltb s g ≡ c → (d : Bool) → ltb g s ≡ d → (w : ℕ) × T (bit P allocated b w) × (spanOf t w ≡ s)
-      go true p d q = A s (ltb-true s g p) i
-      go false p true q = absurd (inner (ltb-true g s q) (eqb (owner t g) 0) refl l)
-      go false p false q =
-          let e : g ≡ s = omega (arith, ltb-false s g p, ltb-false g s q) in
-          rw e at U i
+-- a step of the pass
+module _ (P phase : ℕ) (t b : List ℕ) (g : ℕ) where
+  fault : (((w : ℕ) → WordBits P phase t b w) → Used P t b g → ⊥) → PassedBits P phase t b g 0
+  fault f = record { pages = λ z. absurd (z refl); words = λ z. absurd (z refl); used = λ z. absurd (z refl); fault = λ _. f }
 
-  pub used-all : (g : ℕ) → P ≤ g → ((s : ℕ) → s < g → Used P t b s) → Occupied P t b
-  used-all g l A s i = A s (omega (arith, span-at F s i .low)) i
+  step : {n : ℕ} → 0 < n → n ≡ stretch t g → GoodWords P phase t b (pageWords * g) (pageWords * (g + stretch t g)) → Used P t b g → PassedBits P phase t b g n
+  step l e W U = record { pages = λ _. e; words = λ _. W; used = λ _. U; fault = λ z. absurd (omega arith) }
+
+  -- at a free page
+  module _ (e : owner t g ≡ 0) (r : Bool) (p : r ≡ allBelow pageWords (λ o. bare P b (pageWords * g + o))) where
+    pub dirty-page : not r ≡ true → PassedBits P phase t b g 0
+    dirty-page q = fault (λ A _. no r (free-words g e r p) q (λ w _ _. A w))
+
+    pub free-page : not r ≡ false → PassedBits P phase t b g 1
+    free-page q = step (omega arith) (rw e) (yes r (free-words g e r p) q) (λ i. absurd (omega arith))
+
+  -- at the first of a span
+  module _ {x : Span} (R : Reads t g x) (F : Spans P t) (legal : phase ≤ sweep) (i : IsSpan t g) (r : Bool) (p : r ≡ allBelow (64 * (pageBlocks * x .pages)) (spanRule P phase b x)) where
+    good : T r ↔ GoodWords P phase t b (pageWords * g) (pageWords * (g + stretch t g))
+    good = span-good R F legal i r p
+
+    pub bad-span : not r ≡ true → PassedBits P phase t b g 0
+    bad-span q = fault (λ A _. no r good q (λ w _ _. A w))
+
+    module _ (o : Bool) (s : T o ↔ SetBetween b (pageWords * x .start .0) (pageWords * (x .start .0 + x .pages))) where
+      set : T o ↔ SetBetween b (pageWords * g) (pageWords * (g + pageCount t g))
+      set = rw (R .start, R .pages) at s
+
+      pub empty-span : not o ≡ true → PassedBits P phase t b g 0
+      empty-span q = fault (λ A U. no o set q (used-set F b A g i U))
+
+      pub good-span : not r ≡ false → not o ≡ false → PassedBits P phase t b g (x .pages)
+      good-span q u =
+          step (rw (R .pages) (fits F g i .pages)) (rw (ne-eqb (owner t g) 0 (omega arith)) (R .pages)) (yes r good q) (set-used F b g i (yes o set u))

@@ -19,7 +19,8 @@ use Rattle.bitmap.proofs.FirstFree.{starts-from}
 use Rattle.audit_blocks.specs.Block.{on}
 use Rattle.audit_blocks.proofs.Masks.{all-cong}
 use Rattle.audit_bits.specs.Rules.{blockRule, wordRule}
-use Rattle.audit_bits.proofs.Masks.{on-all, on-none, part-on}
+use Rattle.audit_bits.specs.declared.Allowed.{Allowed}
+use Rattle.audit_bits.proofs.Masks.{on-none, part-on}
 
 -- a test of every word, block by block: k blocks passed, and one more was tested
 module _ (R : ℕ → Bool) (k : ℕ) where
@@ -46,25 +47,20 @@ pub page-block : (R : ℕ → Bool) (g k : ℕ) → allBelow 64 (λ j. R (64 * (
 page-block R g k = all-cong 64 (λ j. R (64 * (pageBlocks * g + k) + j)) (λ j. R (pageWords * g + (64 * k + j))) (λ j l. ap R (omega arith))
 
 -- what stands at the beginning of block k of the span at page s
-pub record Stands (P : ℕ) (b : List ℕ) (s size held : ℕ) (marks grays scan : Bool) (k off left before : ℕ) : Type 0 where
+pub record Stands (P : ℕ) (b : List ℕ) (s size held : ℕ) (allowed : Allowed) (k off left before : ℕ) : Type 0 where
   pub near : off < size
   pub start : (64 * k + off) % size ≡ 0
   pub remains : left ≡ held - 64 * k
   pub last : on before 0 ≡ (ltb 0 (64 * k) && bit P pointer b (pageWords * s + (64 * k - 1)))
-  pub done : (o : ℕ) → o < 64 * k → T (wordRule P b (pageWords * s) size held marks grays scan o)
+  pub done : (o : ℕ) → o < 64 * k → T (wordRule P b (pageWords * s) size held allowed o)
 
 -- the highest bit of a word
 top-on : (x : ℕ) → on (x / 2 ^ 63) 0 ≡ on x 63
 unfolding bitOf
 top-on x = ap (λ y. eqb y 1) (bit-zero (x / 2 ^ 63))
 
--- a mask for all words or for none
-pub on-flag : (c : Bool) (j : ℕ) → j < 64 → on (cond c (2 ^ 64 - 1) 0) j ≡ c
-on-flag true j l = on-all j l
-on-flag false j l = on-none j
-
-module _ (P : ℕ) (b : List ℕ) (s size held : ℕ) (marks grays scan : Bool) where
-  pub stands-first : 0 < size → Stands P b s size held marks grays scan 0 0 held 0
+module _ (P : ℕ) (b : List ℕ) (s size held : ℕ) (allowed : Allowed) where
+  pub stands-first : 0 < size → Stands P b s size held allowed 0 0 held 0
   stands-first h =
       record { near = h; start = zero-mod size; remains = omega arith; last = on-none 0; done = λ o l. absurd (omega arith) }
 
@@ -76,7 +72,7 @@ module _ (P : ℕ) (b : List ℕ) (s size held : ℕ) (marks grays scan : Bool) 
         go true = refl
         go false = refl
 
-    module _ {k off left before : ℕ} (x : Stands P b s size held marks grays scan k off left before) where
+    module _ {k off left before : ℕ} (x : Stands P b s size held allowed k off left before) where
       inside-is : (j : ℕ) → ltb j left ≡ ltb (64 * k + j) held
       inside-is j = go (ltb j left) refl
         where
@@ -98,24 +94,23 @@ module _ (P : ℕ) (b : List ℕ) (s size held : ℕ) (marks grays scan : Bool) 
               let e : 64 * (pageBlocks * s + k) + (j - 1) ≡ pageWords * s + (64 * k + j - 1) = omega (arith, eqb-false j 0 p) in
               rw (e, lt-ltb 0 (64 * k + j) (omega (arith, eqb-false j 0 p)))
 
-      pub block-words : {mark-mask gray-mask scan-mask : ℕ} {r : Bool} → mark-mask ≡ cond marks (2 ^ 64 - 1) 0 → gray-mask ≡ cond grays (2 ^ 64 - 1) 0 → scan-mask ≡ cond scan (2 ^ 64 - 1) 0 →
-          r ≡ allBelow 64 (blockRule P b (pageBlocks * s + k) mask off left before mark-mask gray-mask scan-mask) → r ≡ allBelow 64 (λ j. wordRule P b (pageWords * s) size held marks grays scan (64 * k + j))
-      block-words f g h e = (rw (f, g, h) at e) ∙ all-cong 64 _ (λ j. wordRule P b (pageWords * s) size held marks grays scan (64 * k + j)) word
+      pub block-words : {r : Bool} → r ≡ allBelow 64 (blockRule P b (pageBlocks * s + k) mask off left before allowed) → r ≡ allBelow 64 (λ j. wordRule P b (pageWords * s) size held allowed (64 * k + j))
+      block-words e = e ∙ all-cong 64 _ (λ j. wordRule P b (pageWords * s) size held allowed (64 * k + j)) word
         where
-          word : (j : ℕ) → j < 64 → blockRule P b (pageBlocks * s + k) mask off left before (cond marks (2 ^ 64 - 1) 0) (cond grays (2 ^ 64 - 1) 0) (cond scan (2 ^ 64 - 1) 0) j ≡ wordRule P b (pageWords * s) size held marks grays scan (64 * k + j)
+          word : (j : ℕ) → j < 64 → blockRule P b (pageBlocks * s + k) mask off left before allowed j ≡ wordRule P b (pageWords * s) size held allowed (64 * k + j)
           word j l =
               let e : 64 * (pageBlocks * s + k) + j ≡ pageWords * s + (64 * k + j) = omega arith in
-              rw (e, start-is j l, inside-is j, on-flag marks j l, on-flag grays j l, on-flag scan j l, follows-is j)
+              rw (e, start-is j l, inside-is j, follows-is j)
 
       pub stands-next : pageBlocks * s + k < pageBlocks * P → (r : ℕ) → r < size → (r + 64) % size ≡ off → {ok : Bool} →
-          ok ≡ allBelow 64 (λ j. wordRule P b (pageWords * s) size held marks grays scan (64 * k + j)) → ok ≡ true →
-          Stands P b s size held marks grays scan (k + 1) r (left - 64) (getD b ((3 * (pageBlocks * P) + pageBlocks * s) + k) 0 / 2 ^ 63)
+          ok ≡ allBelow 64 (λ j. wordRule P b (pageWords * s) size held allowed (64 * k + j)) → ok ≡ true →
+          Stands P b s size held allowed (k + 1) r (left - 64) (getD b ((3 * (pageBlocks * P) + pageBlocks * s) + k) 0 / 2 ^ 63)
       stands-next h r l o e p = record {
         near = l;
         start = again;
         remains = omega (arith, x .remains);
         last = last;
-        done = more (wordRule P b (pageWords * s) size held marks grays scan) k (x .done) e p;
+        done = more (wordRule P b (pageWords * s) size held allowed) k (x .done) e p;
       }
         where
           again : (64 * (k + 1) + r) % size ≡ 0

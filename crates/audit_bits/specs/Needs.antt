@@ -1,23 +1,26 @@
--- What the functions require of the phase, of a span's shape and of a page, beside the buffers.
-use Prim.Native.Nat.{ℕ, _+_, _<_, _≤_}
+-- What the functions require of the phase and of a span's shape, beside the buffers.
+use Prim.Native.Nat.{ℕ, _+_, _*_, _<_, _≤_}
 use mathlib.Core.List.{List}
 use mathlib.Core.Logic.{_≢_}
-use Rattle.model.specs.Memory.{sweep}
-use Rattle.model.specs.Spans.{owner}
-use Rattle.model.specs.Facts.{IsSpan}
+use Rattle.model.specs.Memory.{pageWords, sweep}
+use Rattle.model.specs.Classes.{rows, mostLarge, elementWordsOf, elementsOf}
 use Rattle.model.specs.Lent.{AllSwept}
+use Rattle.page_table.specs.declared.Span.{Span}
 
 -- a legal phase, with unswept spans only in phase sweep
 pub record Phased (phase : ℕ) (t : List ℕ) : Type 0 where
   pub legal : phase ≤ sweep
   pub swept : phase ≢ sweep → AllSwept t
 
--- a span of so many pages from page s on lies in the arena, and its elements have words
-pub record Shaped (P s count size : ℕ) : Type 0 where
+-- a span lies in an arena of P pages, and its elements have words
+pub record SpanInside (P : ℕ) (r : Span) (size : ℕ) : Type 0 where
   pub some : 0 < size
-  pub inside : s + count ≤ P
+  pub inside : r .start .0 + r .pages ≤ P
 
--- page g is free or the first of a span
-pub record Begins (P : ℕ) (t : List ℕ) (g : ℕ) : Type 0 where
-  pub low : g < P
-  pub first : 0 < owner t g → IsSpan t g
+-- .. its kind has a class, and its elements fit into it
+pub record Fits (P : ℕ) (r : Span) : Type 0 where
+  pub inside : r .start .0 + r .pages ≤ P
+  pub short : r .pages ≤ mostLarge
+  pub class : r .class ≤ rows
+  pub words : 0 < elementWordsOf (r .class) (r .pages)
+  pub held : elementsOf (r .class) * elementWordsOf (r .class) (r .pages) ≤ pageWords * r .pages

@@ -4,11 +4,13 @@ use Prim.Native.Nat.{ℕ, _+_, _-_, _*_, _%_}
 use mathlib.Core.Bool.{Bool, _&&_, _||_, not, cond}
 use mathlib.Core.List.{List}
 use Rattle.model.specs.Bounded.{_==_, _<?_, _≤?_, _implies_}
-use Rattle.model.specs.Memory.{firstWord, mark, sweep}
+use Rattle.model.specs.Memory.{firstWord, wordBits, mark, sweep}
 use Rattle.model.specs.Bitmaps.{allocated, marked, gray, pointer}
-use Rattle.model.specs.Spans.{elementWords, elements, isUnswept, isScan}
+use Rattle.model.specs.Classes.{elementWordsOf, elementsOf}
 use Rattle.model.specs.Facts.{bit}
+use Rattle.page_table.specs.declared.Span.{Span}
 use Rattle.audit_blocks.specs.Block.{on}
+use Rattle.audit_bits.specs.declared.Allowed.{Allowed}
 
 -- word w has no bit in any part
 unfoldable pub bare : ℕ → List ℕ → ℕ → Bool
@@ -23,23 +25,28 @@ keeps a m g q start inside marks grays scan follows =
 
 -- word j of block `at`: elements start `off` words after its first and on, by the mask `starts`, and end `left` words after it; `before` has the
 -- pointer bit of the word before the block
-abbrev pub blockRule : ℕ → List ℕ → ℕ → ℕ → ℕ → ℕ → ℕ → ℕ → ℕ → ℕ → ℕ → Bool
-blockRule P b at starts off left before marks grays scans j =
-    keeps (bit P allocated b (64 * at + j)) (bit P marked b (64 * at + j)) (bit P gray b (64 * at + j)) (bit P pointer b (64 * at + j))
-    ((off ≤? j && on starts (j - off)) && j <? left) (j <? left) (on marks j) (on grays j) (on scans j)
-    (cond (j == 0) (on before 0) (bit P pointer b (64 * at + (j - 1))))
+abbrev pub blockRule : ℕ → List ℕ → ℕ → ℕ → ℕ → ℕ → ℕ → Allowed → ℕ → Bool
+blockRule P b at starts off left before allowed j =
+    keeps (bit P allocated b (wordBits * at + j)) (bit P marked b (wordBits * at + j)) (bit P gray b (wordBits * at + j)) (bit P pointer b (wordBits * at + j))
+    ((off ≤? j && on starts (j - off)) && j <? left) (j <? left) (allowed .marks) (allowed .grays) (allowed .pointers)
+    (cond (j == 0) (on before 0) (bit P pointer b (wordBits * at + (j - 1))))
 
 -- word o of a span that begins at word v, whose elements have `size` words each and `held` together
-abbrev pub wordRule : ℕ → List ℕ → ℕ → ℕ → ℕ → Bool → Bool → Bool → ℕ → Bool
-wordRule P b v size held marks grays scan o =
+abbrev pub wordRule : ℕ → List ℕ → ℕ → ℕ → ℕ → Allowed → ℕ → Bool
+wordRule P b v size held allowed o =
     keeps (bit P allocated b (v + o)) (bit P marked b (v + o)) (bit P gray b (v + o)) (bit P pointer b (v + o))
-    (o % size == 0 && o <? held) (o <? held) marks grays scan (0 <? o && bit P pointer b (v + (o - 1)))
+    (o % size == 0 && o <? held) (o <? held) (allowed .marks) (allowed .grays) (allowed .pointers) (0 <? o && bit P pointer b (v + (o - 1)))
 
 -- marks may stand in a span: "none in phase off, only in unswept spans in phase sweep"
 abbrev pub marksStand : ℕ → Bool → Bool
 marksStand phase unswept = phase == mark || (phase == sweep && unswept)
 
--- the rules for word o of the span at page s
-abbrev pub spanRule : ℕ → ℕ → List ℕ → List ℕ → ℕ → ℕ → Bool
-spanRule P phase t b s =
-    wordRule P b (firstWord s) (elementWords t s) (elements t s * elementWords t s) (marksStand phase (isUnswept t s)) (phase == mark && isScan t s) (isScan t s)
+-- what may stand in a span
+abbrev pub allowedIn : ℕ → Bool → Bool → Allowed
+allowedIn phase scan unswept = record { marks = marksStand phase unswept; grays = phase == mark && scan; pointers = scan }
+
+-- the rules for word o of a span, as its first page's entry describes it
+abbrev pub spanRule : ℕ → ℕ → List ℕ → Span → ℕ → Bool
+spanRule P phase b r =
+    wordRule P b (firstWord (r .start .0)) (elementWordsOf (r .class) (r .pages)) (elementsOf (r .class) * elementWordsOf (r .class) (r .pages))
+    (allowedIn phase (r .scan) (r .unswept))

@@ -1,14 +1,15 @@
--- What the audit says of the bits of one arena word: the records `Bits` and `Phases` of the model, at that word.
-use Prim.Native.Nat.{ℕ, _-_, _<_, _≤_}
-use mathlib.Core.Bool.{cond}
+-- What the audit says of the bits of one arena word: the records `Bits` and `Phases` of the model, at that word; of the words of a stretch of pages; and
+-- of all of them.
+use Prim.Native.Nat.{ℕ, _+_, _-_, _<_, _≤_}
 use mathlib.Core.List.{List}
 use mathlib.Core.Logic.{_≢_}
 use mathlib.Core.Path.{_≡_}
 use lib.Dec.{T}
-use Rattle.model.specs.Memory.{off, mark, sweep}
-use Rattle.model.specs.Bitmaps.{allocated, marked, gray, pointer}
-use Rattle.model.specs.Spans.{pageCount, spanOf, elementOf, isFree}
-use Rattle.model.specs.Facts.{IsSpan, InElement, Element, bit, scanAt, unsweptAt}
+use Rattle.model.specs.Memory.{firstWord, off, mark, sweep}
+use Rattle.model.specs.Bitmaps.{bitAt, allocated, marked, gray, pointer}
+use Rattle.model.specs.Spans.{spanOf, elementOf}
+use Rattle.model.specs.Facts.{IsSpan, InElement, Element, Bits, Phases, Occupied, bit, scanAt, unsweptAt}
+use Rattle.audit_pages.specs.Stretch.{stretch}
 
 pub record WordBits (P phase : ℕ) (t b : List ℕ) (w : ℕ) : Type 0 where
   pub element : T (bit P allocated b w) → Element t w
@@ -18,10 +19,6 @@ pub record WordBits (P phase : ℕ) (t b : List ℕ) (w : ℕ) : Type 0 where
   pub head : T (bit P allocated b w) → T (scanAt t w) → T (bit P pointer b w)
   pub unbroken : T (bit P pointer b w) → elementOf t w ≢ w → T (bit P pointer b (w - 1))
 
--- the pages of the span at page g; a free page alone
-abbrev pub stretch : List ℕ → ℕ → ℕ
-stretch t g = cond (isFree t g) 1 (pageCount t g)
-
 -- the words from one on, up to another
 abbrev pub GoodWords : ℕ → ℕ → List ℕ → List ℕ → ℕ → ℕ → Type 0
 GoodWords P phase t b from to = (w : ℕ) → from ≤ w → w < to → WordBits P phase t b w
@@ -29,3 +26,21 @@ GoodWords P phase t b from to = (w : ℕ) → from ≤ w → w < to → WordBits
 -- a span at page s has an allocated word
 abbrev pub Used : ℕ → List ℕ → List ℕ → ℕ → Type 0
 Used P t b s = IsSpan t s → (w : ℕ) × T (bit P allocated b w) × (spanOf t w ≡ s)
+
+-- a bit is set from `from` on and before `to`
+abbrev pub SetBetween : List ℕ → ℕ → ℕ → Type 0
+SetBetween b from to = (w : ℕ) × (from ≤ w) × (w < to) × T (bitAt b w)
+
+-- at page g, which is free or the first of a span, n pages are passed: their words have the bits that the audit allows, and a span an allocated one;
+-- 0 is a fault
+pub record PassedBits (P phase : ℕ) (t b : List ℕ) (g n : ℕ) : Type 0 where
+  pub pages : n ≢ 0 → n ≡ stretch t g
+  pub words : n ≢ 0 → GoodWords P phase t b (firstWord g) (firstWord (g + stretch t g))
+  pub used : n ≢ 0 → Used P t b g
+  pub fault : n ≡ 0 → ((w : ℕ) → WordBits P phase t b w) → Used P t b g → ⊥
+
+-- the audit's clauses about bits
+pub record GoodBits (P phase : ℕ) (t b : List ℕ) : Type 0 where
+  pub rules : Bits P t b
+  pub phases : Phases P phase t b
+  pub occupied : Occupied P t b

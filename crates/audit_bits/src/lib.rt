@@ -1,37 +1,45 @@
 // The audit's clauses about bits. A block is the 64 arena words of one bitmap word, which lie in one
 // span or on one free page; its bits are one word in each of the four parts, and whole words are
-// tested (crate audit_blocks), so a block without bits is passed over whole and no bit is visited.
+// tested (crate audit_blocks), so a block without bits is passed over whole and no bit is visited. The
+// page table has passed the audit; it is passed once more here, from span to span.
 ghost use mathlib.Core.Path.{_≡_};
 ghost use mathlib.Core.Bool.{_&&_, cond};
 ghost use mathlib.Core.Logic.{_↔_};
 ghost use Prim.Native.Nat.{ℕ, _+_, _-_, _*_, _^_, _<_};
 ghost use lib.Dec.{T};
 ghost use Rattle.model.specs.Bounded.{_==_, _<?_, _≤?_, allBelow};
-ghost use Rattle.model.specs.Memory.{mark, pageWords, pageBlocks, unsweptFlag};
-ghost use Rattle.model.specs.Spans.{pageCount};
-ghost use Rattle.model.specs.Facts.{Bits, Phases, Occupied};
-ghost use Rattle.model.specs.Lent.{HasEntry, Bitmaps, Mapped, MappedSpan, Consistent};
+ghost use Rattle.model.specs.Memory.{mark, pageWords, pageBlocks, wordBits, firstWord};
+ghost use Rattle.model.specs.Lent.{Bitmaps, Mapped};
 ghost use Rattle.audit_blocks.specs.Block.{on};
-ghost use Rattle.audit_bits.specs.Words.{GoodWords, Used, stretch};
-ghost use Rattle.audit_bits.specs.Needs.{Phased, Shaped, Begins};
+ghost use Rattle.audit_pages.specs.Stretch.{Begins};
+ghost use Rattle.audit_bits.specs.Words.{GoodBits, SetBetween, PassedBits};
+ghost use Rattle.audit_bits.specs.Needs.{Phased, SpanInside, Fits};
 ghost use Rattle.audit_bits.specs.Rules.{bare, blockRule, wordRule, marksStand, spanRule};
 use audit_blocks::colours_ok;
 use audit_blocks::pointers_ok;
 use bitmap::first_set;
 use bitmap::next_start;
-use classes::element_words;
-use classes::elements;
+use classes::layout_of;
 use classes::starts;
-use pages::kind_entry;
-use pages::owner;
-use pages::page_count;
+use page_table::Span;
+use page_table::owner;
+use page_table::span_at;
 use units::ALL_BITS;
+use units::GRAY_PART;
 use units::MARK;
+use units::MARKED_PART;
 use units::PAGE_BLOCKS;
-use units::PAGE_WORDS;
+use units::POINTER_PART;
+use units::Page;
 use units::SWEEP;
-use units::UNSWEPT_FLAG;
 use units::WORD_BITS;
+
+// Whether marks, gray bits and pointers may stand in a span.
+struct Allowed {
+    marks: bool,
+    grays: bool,
+    pointers: bool,
+}
 
 // A mask for every word of a block, or for none.
 fn flag(all: bool) -> u64
@@ -42,7 +50,7 @@ fn flag(all: bool) -> u64
 
 // The first `left` words of a block; all of them where there are not so many.
 fn below(left: usize) -> u64
-    ensures { λ r. ⌜ ((j : ℕ) → j < 64 → on r j ≡ (j <? left)) ⌝ }
+    ensures { λ r. ⌜ ((j : ℕ) → j < wordBits → on r j ≡ (j <? left)) ⌝ }
 {
     if left < WORD_BITS {
         return !(ALL_BITS << left);
@@ -53,7 +61,7 @@ fn below(left: usize) -> u64
 // The words at which elements start in a block, if the first of them is word `off`, or lies behind
 // the block. `starts` has them for a block whose first word starts one.
 fn starts_in(starts: u64, off: usize) -> u64
-    ensures { λ r. ⌜ ((j : ℕ) → j < 64 → on r j ≡ (off ≤? j && on starts (j - off))) ⌝ }
+    ensures { λ r. ⌜ ((j : ℕ) → j < wordBits → on r j ≡ (off ≤? j && on starts (j - off))) ⌝ }
 {
     if off < WORD_BITS {
         return starts << off;
@@ -63,7 +71,7 @@ fn starts_in(starts: u64, off: usize) -> u64
 
 // What is left of `left` words behind a block.
 fn behind(left: usize) -> usize
-    ensures { λ r. ⌜ r ≡ left - 64 ⌝ }
+    ensures { λ r. ⌜ r ≡ left - wordBits ⌝ }
 {
     if left < WORD_BITS {
         return 0;
@@ -74,13 +82,19 @@ fn behind(left: usize) -> usize
 // Block `at` has no bit in any part.
 fn empty(p: usize, bits: &[u64], at: usize) -> bool
     requires { ⌜ Bitmaps p (now bits) × (at < pageBlocks * p) ⌝ }
-    ensures { λ r. ⌜ r ≡ allBelow 64 (λ j. bare p (now (bits .entry)) (64 * at + j)) ⌝ }
+    ensures { λ r. ⌜ r ≡ allBelow wordBits (λ j. bare p (now (bits .entry)) (wordBits * at + j)) ⌝ }
 {
     let part = PAGE_BLOCKS * p;
-    bits[at] | bits[part + at] | bits[2 * part + at] | bits[3 * part + at] == 0
+    bits[at]
+        | bits[MARKED_PART * part + at]
+        | bits[GRAY_PART * part + at]
+        | bits[POINTER_PART * part + at]
+        == 0
 }
 
-// Block `at` keeps the rules of its span.
+// Block `at` keeps the rules of its span. `starts` has the starts of elements in a block whose first
+// word is one; from the block's first word on it is `off` words to the next start and `left` words to
+// the end of all elements; `before` is the pointer bit of the word before it.
 fn block_ok(
     p: usize,
     bits: &[u64],
@@ -89,67 +103,62 @@ fn block_ok(
     off: usize,
     left: usize,
     before: u64,
-    marks: u64,
-    grays: u64,
-    scans: u64,
+    allowed: Allowed,
 ) -> bool
     requires { ⌜ Bitmaps p (now bits) × (at < pageBlocks * p) ⌝ }
     ensures { λ r. ⌜
-        r ≡ allBelow 64 (blockRule p (now (bits .entry)) at starts off left before marks grays scans) ⌝ }
+        r ≡ allBelow wordBits (blockRule p (now (bits .entry)) at starts off left before allowed) ⌝ }
 {
     if empty(p, bits, at) {
         return true;
     }
+    let marks = flag(allowed.marks);
+    let grays = flag(allowed.grays);
+    let scans = flag(allowed.pointers);
     let part = PAGE_BLOCKS * p;
     let a = bits[at];
     let inside = below(left);
     let first = starts_in(starts, off) & inside;
-    if !colours_ok(a, bits[part + at], bits[2 * part + at], first, marks, grays) {
+    if !colours_ok(
+        a,
+        bits[MARKED_PART * part + at],
+        bits[GRAY_PART * part + at],
+        first,
+        marks,
+        grays,
+    ) {
         return false;
     }
     pointers_ok(
         a & scans,
-        bits[3 * part + at],
+        bits[POINTER_PART * part + at],
         first,
         inside & scans,
         before,
     )
 }
 
-// The bits of the `count` pages from page s on keep the rules of a span there whose elements have
-// `size` words each and `held` together. Marks, gray bits and pointers may stand in it or not.
-fn blocks_ok(
-    p: usize,
-    bits: &[u64],
-    s: usize,
-    count: usize,
-    size: usize,
-    held: usize,
-    marks: bool,
-    grays: bool,
-    scan: bool,
-) -> bool
-    requires { ⌜ Bitmaps p (now bits) × Shaped p s count size ⌝ }
+// The bits of the span, whose elements have `size` words each and `held` together, keep the rules.
+fn blocks_ok(p: usize, bits: &[u64], span: Span, size: usize, held: usize, allowed: Allowed) -> bool
+    requires { ⌜ Bitmaps p (now bits) × SpanInside p span size ⌝ }
     ensures { λ r. ⌜
-        r ≡ allBelow (64 * (pageBlocks * count))
-        (wordRule p (now (bits .entry)) (pageWords * s) size held marks grays scan) ⌝ }
+        r ≡ allBelow (wordBits * (pageBlocks * span .pages))
+        (wordRule p (now (bits .entry)) (firstWord (span .start .0)) size held allowed) ⌝ }
 {
-    let marked = flag(marks);
-    let gray = flag(grays);
-    let scans = flag(scan);
+    let page = span.start.0;
+    let count = span.pages;
     let mask = starts(size);
-    let rest = 64 % size;
-    let first = PAGE_BLOCKS * s;
-    let pointers = 3 * (PAGE_BLOCKS * p) + first;
+    let rest = WORD_BITS % size;
+    let first = PAGE_BLOCKS * page;
+    let pointers = POINTER_PART * (PAGE_BLOCKS * p) + first;
     let blocks = PAGE_BLOCKS * count;
     let mut k = 0;
-    // from the block on: to the next start, to the end of all elements; the pointer bit before it
+    // as block_ok says
     let mut off = 0;
     let mut left = held;
     let mut before = 0;
     while k < blocks {
-        let at = first + k;
-        let ok = block_ok(p, bits, at, mask, off, left, before, marked, gray, scans);
+        let ok = block_ok(p, bits, first + k, mask, off, left, before, allowed);
         before = bits[pointers + k] >> 63;
         off = next_start(size, rest, off);
         left = behind(left);
@@ -162,11 +171,13 @@ fn blocks_ok(
 }
 
 // Page g, a free one, has no bit in any part.
-fn free_page_ok(p: usize, bits: &[u64], g: usize) -> bool
-    requires { ⌜ Bitmaps p (now bits) × (g < p) ⌝ }
-    ensures { λ r. ⌜ r ≡ allBelow (64 * pageBlocks) (λ o. bare p (now (bits .entry)) (pageWords * g + o)) ⌝ }
+fn free_page_ok(p: usize, bits: &[u64], g: Page) -> bool
+    requires { ⌜ Bitmaps p (now bits) × (g .0 < p) ⌝ }
+    ensures { λ r. ⌜
+        r ≡ allBelow (wordBits * pageBlocks) (λ o. bare p (now (bits .entry)) (pageWords * g .0 + o)) ⌝ }
 {
-    let first = PAGE_BLOCKS * g;
+    let page = g.0;
+    let first = PAGE_BLOCKS * page;
     let mut k = 0;
     while k < PAGE_BLOCKS {
         let at = first + k;
@@ -178,15 +189,15 @@ fn free_page_ok(p: usize, bits: &[u64], g: usize) -> bool
     true
 }
 
-// Marks may stand in a span with this entry of the kind.
-fn marks_stand(phase: u64, entry: usize) -> bool
-    ensures { λ r. ⌜ r ≡ marksStand phase (unsweptFlag ≤? entry) ⌝ }
+// Marks may stand in a span: in phase mark, and in phase sweep in an unswept one.
+fn marks_stand(phase: u64, unswept: bool) -> bool
+    ensures { λ r. ⌜ r ≡ marksStand phase unswept ⌝ }
 {
     if phase == MARK {
         return true;
     }
     if phase == SWEEP {
-        return UNSWEPT_FLAG as usize <= entry;
+        return unswept;
     }
     false
 }
@@ -201,89 +212,71 @@ fn grays_stand(phase: u64, scan: bool) -> bool
     false
 }
 
-// The bits of the span at page s keep the rules.
-pub fn span_bits_ok(p: usize, table: &[u32], bits: &[u64], phase: u64, s: usize) -> bool
-    requires { ⌜ MappedSpan p (now table) (now bits) s ⌝ }
+// The bits of the span keep the rules.
+fn span_bits_ok(p: usize, bits: &[u64], phase: u64, span: Span) -> bool
+    requires { ⌜ Bitmaps p (now bits) × Fits p span ⌝ }
     ensures { λ r. ⌜
-        r ≡ allBelow (64 * (pageBlocks * pageCount (now (table .entry)) s))
-        (spanRule p phase (now (table .entry)) (now (bits .entry)) s) ⌝ }
+        r ≡ allBelow (wordBits * (pageBlocks * span .pages)) (spanRule p phase (now (bits .entry)) span) ⌝ }
 {
-    let count = page_count(table, s);
-    let entry = kind_entry(table, s);
-    let kind = entry % UNSWEPT_FLAG as usize;
-    let size = element_words(kind / 2, count);
-    let held = elements(kind / 2) * size;
-    let scan = kind % 2 == 0;
-    let marks = marks_stand(phase, entry);
-    let grays = grays_stand(phase, scan);
-    blocks_ok(p, bits, s, count, size, held, marks, grays, scan)
+    let elements = layout_of(span.class, span.pages);
+    let size = elements.words;
+    let count = elements.count;
+    let held = count * size;
+    let allowed = Allowed {
+        marks: marks_stand(phase, span.unswept),
+        grays: grays_stand(phase, span.scan),
+        pointers: span.scan,
+    };
+    blocks_ok(p, bits, span, size, held, allowed)
 }
 
-// The pages of the span at page g; a free page alone.
-fn stretch(table: &[u32], g: usize) -> usize
-    requires { ⌜ HasEntry (now table) g ⌝ }
-    ensures { λ r. ⌜ r ≡ stretch (now (table .entry)) g ⌝ }
-{
-    if owner(table, g) == 0 {
-        return 1;
-    }
-    page_count(table, g)
-}
-
-// The bits of page g, a free one, or of the span that starts there, keep the rules.
-fn stretch_ok(p: usize, table: &[u32], bits: &[u64], phase: u64, g: usize) -> bool
-    requires { ⌜ Mapped p (now table) (now bits) × Phased phase (now table) × Begins p (now table) g ⌝ }
+// The span has an allocated element. Allocated bits are the first of the bitmaps, so that they stand at
+// the words' own numbers.
+fn occupied(p: usize, bits: &[u64], span: Span) -> bool
+    requires { ⌜ Bitmaps p (now bits) × Fits p span ⌝ }
     ensures { λ r. ⌜
-        T r ↔ GoodWords p phase (now (table .entry)) (now (bits .entry)) (pageWords * g)
-        (pageWords * (g + stretch (now (table .entry)) g)) ⌝ }
+        T r ↔ SetBetween (now (bits .entry)) (firstWord (span .start .0))
+        (firstWord (span .start .0 + span .pages)) ⌝ }
 {
-    if owner(table, g) == 0 {
-        return free_page_ok(p, bits, g);
-    }
-    span_bits_ok(p, table, bits, phase, g)
-}
-
-// The audit's clauses about bits, also where they depend on the phase. The page table has passed it.
-pub fn bits_ok(p: usize, table: &[u32], bits: &[u64], phase: u64) -> bool
-    requires { ⌜ Mapped p (now table) (now bits) × Phased phase (now table) ⌝ }
-    ensures { λ r. ⌜
-        T r ↔ (Bits p (now (table .entry)) (now (bits .entry)) ×
-        Phases p phase (now (table .entry)) (now (bits .entry))) ⌝ }
-{
-    let mut g = 0;
-    while g < p {
-        let at = g;
-        g = at + stretch(table, at);
-        if !stretch_ok(p, table, bits, phase, at) {
-            return false;
-        }
-    }
-    true
-}
-
-// Page g is free, or the span that starts there has an allocated element.
-fn stretch_occupied(p: usize, table: &[u32], bits: &[u64], g: usize) -> bool
-    requires { ⌜ Consistent p (now table) (now bits) × Begins p (now table) g ⌝ }
-    ensures { λ r. ⌜ T r ↔ Used p (now (table .entry)) (now (bits .entry)) g ⌝ }
-{
-    if owner(table, g) == 0 {
-        return true;
-    }
-    let from = PAGE_WORDS * g;
-    let to = PAGE_WORDS * (g + page_count(table, g));
+    let end = span.start.0 + span.pages;
+    let from = span.start.first_word().0;
+    let to = Page(end).first_word().0;
     first_set(bits, from, to) < to
 }
 
-// Each span has an allocated element. The bits have passed the audit.
-pub fn occupied_ok(p: usize, table: &[u32], bits: &[u64]) -> bool
-    requires { ⌜ Consistent p (now table) (now bits) ⌝ }
-    ensures { λ r. ⌜ T r ↔ Occupied p (now (table .entry)) (now (bits .entry)) ⌝ }
+// How many pages there are to pass at page g: one free page without bits, or a whole span whose bits
+// keep the rules and which has an allocated element. 0 is a fault.
+fn passed(p: usize, table: &[u32], bits: &[u64], phase: u64, g: Page) -> usize
+    requires { ⌜ Mapped p (now table) (now bits) × Phased phase (now table) × Begins p (now table) (g .0) ⌝ }
+    ensures { λ r. ⌜ PassedBits p phase (now (table .entry)) (now (bits .entry)) (g .0) r ⌝ }
+{
+    if owner(table, g) == 0 {
+        if !free_page_ok(p, bits, g) {
+            return 0;
+        }
+        return 1;
+    }
+    let span = span_at(table, g);
+    if !span_bits_ok(p, bits, phase, span) {
+        return 0;
+    }
+    if !occupied(p, bits, span) {
+        return 0;
+    }
+    span.pages
+}
+
+// The audit's clauses about bits, also where they depend on the phase, and each span has an allocated
+// element. The page table has passed the audit.
+pub fn bits_ok(p: usize, table: &[u32], bits: &[u64], phase: u64) -> bool
+    requires { ⌜ Mapped p (now table) (now bits) × Phased phase (now table) ⌝ }
+    ensures { λ r. ⌜ T r ↔ GoodBits p phase (now (table .entry)) (now (bits .entry)) ⌝ }
 {
     let mut g = 0;
     while g < p {
-        let at = g;
-        g = at + stretch(table, at);
-        if !stretch_occupied(p, table, bits, at) {
+        let n = passed(p, table, bits, phase, Page(g));
+        g += n;
+        if n == 0 {
             return false;
         }
     }

@@ -1,2 +1,3 @@
-pub mod Stacks
 pub mod Pass
+pub mod Stacks
+pub mod Stretches

@@ -4,33 +4,40 @@ use Prim.Native.Nat.{ℕ, _+_, _-_, _/_, _%_, _<_, _≤_}
 use mathlib.Core.Bool.{Bool, true, false, not}
 use mathlib.Core.List.{List}
 use mathlib.Core.Logic.{_≢_, _↔_}
-use mathlib.Core.Path.{_≡_, refl, sym, _∙_}
+use mathlib.Core.Path.{_≡_, refl, sym, _∙_, ap}
 use native.Mathlib.Omega.{arith}
 use lib.Dec.{T, eqb, ltb, leb}
 use lib.ListN.{List·getD-eq-default}
-use borrow.Author.Tests.{ltb-true, ltb-false, eqb-true, eqb-false}
+use borrow.Author.Tests.{ltb-true, ltb-false, eqb-true, eqb-false, lt-leb, leb-false}
 use Rattle.model.specs.Memory.{unsweptFlag, sweep}
-use Rattle.model.specs.Classes.{classPages, kinds, fewestLarge, mostLarge}
+use Rattle.model.specs.Classes.{rows, classPages, fewestLarge, mostLarge}
 use Rattle.model.specs.Spans.{owner, pageCount, kindEntry}
 use Rattle.model.proofs.Tests.{eqb-iff, leb-iff}
 use Rattle.model.specs.Facts.{IsSpan, GoodEntry}
 use Rattle.model.specs.Lent.{PageTable}
 use Rattle.model.proofs.Spans.{entry-fits}
 use Rattle.model.proofs.Answers.{no}
-use Rattle.audit_pages.specs.Pass.{GoodPages, Further, Body, GoodSpan, PassedPages}
+use Rattle.page_table.specs.Span.{Reads}
+use Rattle.page_table.specs.declared.Span.{Span}
+use Rattle.audit_pages.specs.Pass.{GoodPages, BareEntry, Further, Body, GoodSpan, PassedPages}
 
 -- the entry of a span's first page: of a class with a page count of its own, of class 0
-module _ (kind count : ℕ) (f : kind < unsweptFlag + unsweptFlag) (k : kind % unsweptFlag < kinds) where
-  pub class-entry : (pages : ℕ) → kind % unsweptFlag / 2 ≢ 0 → pages ≡ classPages (kind % unsweptFlag / 2) → T (eqb count pages) ↔ GoodEntry kind count
-  class-entry pages d e =
-      (λ x. record { flag = f; kind = k; large = λ z. absurd (d z); small = λ _. eqb-iff count pages .0 x ∙ e }, λ G. eqb-iff count pages .1 (G .small d ∙ sym e))
+module _ (entry class count : ℕ) (e : class ≡ entry % unsweptFlag / 2) (f : entry < unsweptFlag + unsweptFlag) (k : class ≤ rows) where
+  pub class-entry : (pages : ℕ) → class ≢ 0 → pages ≡ classPages class → T (eqb count pages) ↔ GoodEntry entry count
+  class-entry pages d p =
+      let q : pages ≡ classPages (entry % unsweptFlag / 2) = p ∙ ap classPages e in
+      (λ x. record { flag = f; kind = omega arith; large = λ z. absurd (d (e ∙ z)); small = λ _. eqb-iff count pages .0 x ∙ q }, λ G. eqb-iff count pages .1 (G .small (λ z. d (e ∙ z)) ∙ sym q))
 
-  pub large-entry : kind % unsweptFlag / 2 ≡ 0 → fewestLarge ≤ count → T (leb count mostLarge) ↔ GoodEntry kind count
-  large-entry z l = (λ x. record { flag = f; kind = k; large = λ _. (l, leb-iff count mostLarge .0 x); small = λ d. absurd (d z) }, λ G. leb-iff count mostLarge .1 (G .large z .1))
+  pub large-entry : class ≡ 0 → fewestLarge ≤ count → T (leb count mostLarge) ↔ GoodEntry entry count
+  large-entry z l =
+      (λ x. record { flag = f; kind = omega arith; large = λ _. (l, leb-iff count mostLarge .0 x); small = λ d. absurd (d (sym e ∙ z)) }, λ G. leb-iff count mostLarge .1 (G .large (sym e ∙ z) .1))
 
--- page g, of whose numbers the first two are right
-pub further-iff : (t : List ℕ) (s g : ℕ) → owner t g ≡ s + 1 → pageCount t g ≡ 0 → T (eqb (kindEntry t g) 0) ↔ Further t s g
-further-iff t s g o n = (λ x. record { owned = o; count = n; kind = eqb-iff (kindEntry t g) 0 .0 x }, λ h. eqb-iff (kindEntry t g) 0 .1 (h .kind))
+-- page g, which has no page count; and one that names the span
+pub bare-iff : (t : List ℕ) (g : ℕ) → pageCount t g ≡ 0 → T (eqb (kindEntry t g) 0) ↔ BareEntry t g
+bare-iff t g n = (λ x. (n, eqb-iff (kindEntry t g) 0 .0 x), λ h. eqb-iff (kindEntry t g) 0 .1 (h .1))
+
+pub further-iff : (t : List ℕ) (s g : ℕ) → owner t g ≡ s + 1 → (r : Bool) → T r ↔ BareEntry t g → T r ↔ Further t s g
+further-iff t s g o r f = (λ x. record { owned = o; bare = f .0 x }, λ h. f .1 (h .bare))
 
 -- .. so are those below g, and g
 pub body-more : (t : List ℕ) (s g e : ℕ) → ((k : ℕ) → s < k → k < g → k < e → Further t s k) → Further t s g → (k : ℕ) → s < k → k < g + 1 → k < e → Further t s k
@@ -51,20 +58,31 @@ first-of {p} {ph} {t} F s e = record { entry = F .spans .entry s e; inside = F .
     body : Body t s
     body g a b =
         let o = F .spans .body s g e (omega arith) b in
-        let r = F .spans .rest g (omega arith) in
-        record { owned = o; count = r .0; kind = r .1 }
+        record { owned = o; bare = F .spans .rest g (omega arith) }
 
--- a span's first page, of which the kind and the count are known
-module _ (p ph : ℕ) (t : List ℕ) (s kind count : ℕ) (k : kind ≡ kindEntry t s) (n : count ≡ pageCount t s) where
-  pub bad-entry : (b : Bool) → T b ↔ GoodEntry kind count → not b ≡ true → GoodSpan p ph t s → ⊥
-  bad-entry b f e F = no b f e (rw (k, n) (F .entry))
+-- a span as its first page's entry describes it
+module _ (p ph : ℕ) (t : List ℕ) {s : ℕ} {r : Span} (R : Reads t s r) where
+  pub bad-entry : (b : Bool) → T b ↔ GoodEntry (r .entry) (r .pages) → not b ≡ true → GoodSpan p ph t s → ⊥
+  bad-entry b f e F = no b f e (rw (R .entry, R .pages) (F .entry))
 
-  pub bad-flag : (b : Bool) → T b ↔ (ph ≢ sweep → kind < unsweptFlag) → not b ≡ true → GoodSpan p ph t s → ⊥
-  bad-flag b f e F = no b f e (λ d. rw k (F .swept d))
+  pub bad-flag : (b : Bool) → T b ↔ (ph ≢ sweep → r .unswept ≡ false) → not b ≡ true → GoodSpan p ph t s → ⊥
+  bad-flag b f e F = no b f e (λ d. R .unswept ∙ lt-leb unsweptFlag (kindEntry t s) (F .swept d))
 
-  pub first-iff : (b : Bool) → GoodEntry kind count → s + count ≤ p → (ph ≢ sweep → kind < unsweptFlag) → T b ↔ Body t s → T b ↔ GoodSpan p ph t s
-  first-iff b e i d f =
-      (λ x. record { entry = rw (k, n) at e; inside = rw n at i; body = f .0 x; swept = λ q. rw k at (d q) }, λ F. f .1 (F .body))
+  pub span-iff : (b : Bool) → GoodEntry (r .entry) (r .pages) → s + r .pages ≤ p → (ph ≢ sweep → r .unswept ≡ false) → T b ↔ Body t s → T b ↔ GoodSpan p ph t s
+  span-iff b e i d f =
+      (λ x. record { entry = rw (R .entry, R .pages) at e; inside = rw (R .pages) at i; body = f .0 x; swept = λ q. leb-false unsweptFlag (kindEntry t s) (sym (R .unswept) ∙ d q) }, λ F. f .1 (F .body))
+
+  -- .. by the page that it names as its first
+  pub own-span : (b : Bool) → T b ↔ GoodSpan p ph t (r .start .0) → T b ↔ GoodSpan p ph t s
+  own-span b f = rw (R .start) at f
+
+-- a step at a free page
+module _ (p ph : ℕ) (t : List ℕ) (g : ℕ) (o : owner t g ≡ 0) where
+  pub dirty-page : (BareEntry t g → ⊥) → PassedPages p ph t g 0
+  dirty-page d = record { free = λ z. absurd (z refl); span = λ z. absurd (z refl); dirty = λ _ _. d; bad = λ _ z. absurd (omega arith) }
+
+  pub free-page : BareEntry t g → PassedPages p ph t g 1
+  free-page x = record { free = λ _ _. (refl, x); span = λ _ z. absurd (z o); dirty = λ z. absurd (omega arith); bad = λ z. absurd (omega arith) }
 
 -- a step at a page that starts a span
 module _ (p ph : ℕ) (t : List ℕ) (g : ℕ) (o : owner t g ≡ g + 1) where
@@ -103,7 +121,7 @@ module _ (p ph : ℕ) (t : List ℕ) where
 
           rest : (k : ℕ) → k < g + n → owner t k ≢ k + 1 → (b : Bool) → ltb k g ≡ b → (pageCount t k ≡ 0) × (kindEntry t k ≡ 0)
           rest k m e true q = U .rest k (ltb-true k g q) e
-          rest k m e false q = let f = S .free d z in rw (here k m q) (f .1, f .2)
+          rest k m e false q = rw (here k m q) (S .free d z .1)
 
           whose : (k : ℕ) → k < g + n → 0 < owner t k → (b : Bool) → ltb k g ≡ b → IsSpan t (owner t k - 1) × (owner t k - 1 ≤ k) × (k < owner t k - 1 + pageCount t (owner t k - 1))
           whose k m u true q = U .whose k (ltb-true k g q) u
@@ -132,7 +150,7 @@ module _ (p ph : ℕ) (t : List ℕ) where
           rest : (k : ℕ) → k < g + n → owner t k ≢ k + 1 → (b : Bool) → ltb k g ≡ b → (c : Bool) → eqb k g ≡ c → (pageCount t k ≡ 0) × (kindEntry t k ≡ 0)
           rest k m e true q c r = U .rest k (ltb-true k g q) e
           rest k m e false q true r = absurd (e (rw (eqb-true k g r) starts))
-          rest k m e false q false r = let x = body k m q r in (x .count, x .kind)
+          rest k m e false q false r = body k m q r .bare
 
           whose : (k : ℕ) → k < g + n → 0 < owner t k → (b : Bool) → ltb k g ≡ b → (c : Bool) → eqb k g ≡ c → IsSpan t (owner t k - 1) × (owner t k - 1 ≤ k) × (k < owner t k - 1 + pageCount t (owner t k - 1))
           whose k m u true q c r = U .whose k (ltb-true k g q) u

@@ -13,11 +13,14 @@ pub record GoodPages (p ph : ℕ) (t : List ℕ) : Type 0 where
   pub spans : Spans p t
   pub swept : ph ≢ sweep → AllSwept t
 
+-- the entry of page g has neither a page count nor a kind
+abbrev pub BareEntry : List ℕ → ℕ → Type 0
+BareEntry t g = (pageCount t g ≡ 0) × (kindEntry t g ≡ 0)
+
 -- page g is a further page of the span at page s: "s+1, 0, 0"
 pub record Further (t : List ℕ) (s g : ℕ) : Type 0 where
   pub owned : owner t g ≡ s + 1
-  pub count : pageCount t g ≡ 0
-  pub kind : kindEntry t g ≡ 0
+  pub bare : BareEntry t g
 
 -- the pages of the span at page s after its first
 abbrev pub Body : List ℕ → ℕ → Type 0
@@ -32,7 +35,7 @@ pub record GoodSpan (p ph : ℕ) (t : List ℕ) (s : ℕ) : Type 0 where
 
 -- from page g on n pages are passed, a free page or a whole span; 0 is a fault
 pub record PassedPages (p ph : ℕ) (t : List ℕ) (g n : ℕ) : Type 0 where
-  pub free : n ≢ 0 → owner t g ≡ 0 → (n ≡ 1) × (pageCount t g ≡ 0) × (kindEntry t g ≡ 0)
+  pub free : n ≢ 0 → owner t g ≡ 0 → (n ≡ 1) × BareEntry t g
   pub span : n ≢ 0 → owner t g ≢ 0 → (owner t g ≡ g + 1) × (n ≡ pageCount t g) × GoodSpan p ph t g
-  pub dirty : n ≡ 0 → owner t g ≡ 0 → (pageCount t g ≡ 0) × (kindEntry t g ≡ 0) → ⊥
+  pub dirty : n ≡ 0 → owner t g ≡ 0 → BareEntry t g → ⊥
   pub bad : n ≡ 0 → owner t g ≡ g + 1 → GoodSpan p ph t g → ⊥

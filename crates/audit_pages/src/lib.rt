@@ -1,16 +1,20 @@
 // The audit of what is small: the states of the stacks and of the globals, the phase, and the page
 // table. The page table is passed once, from span to span: where a span has ended, the next page is
-// free or starts a span, and nothing else may stand there.
+// free or starts a span, and nothing else may stand there. For the passes that come after this one,
+// over the bits and over the words, proofs/Stretches says how they go from span to span.
 ghost use mathlib.Core.Path.{_≡_};
 ghost use mathlib.Core.Logic.{_↔_, _≢_};
-ghost use Prim.Native.Nat.{ℕ, _+_, _<_, _≤_};
+ghost use Prim.Native.Nat.{ℕ, _+_, _/_, _%_, _<_, _≤_};
 ghost use lib.Dec.{T};
+ghost use mathlib.Core.Bool.{false};
 ghost use Rattle.model.specs.Memory.{maxPages, unsweptFlag, stackCount, sweep};
 ghost use Rattle.model.specs.Spans.{pageCount};
 ghost use Rattle.model.specs.Facts.{GoodEntry, States};
 ghost use Rattle.model.specs.Lent.{Roots, PageTable, HasEntry};
 ghost use Rattle.audit_pages.specs.Stacks.{GoodPhase, EmptyStack, GoodStack};
-ghost use Rattle.audit_pages.specs.Pass.{GoodPages, Further, Body, GoodSpan, PassedPages};
+ghost use Rattle.page_table.specs.Span.{Reads};
+ghost use Rattle.audit_pages.specs.Pass.{GoodPages, BareEntry, Further, Body, GoodSpan, PassedPages};
+use page_table::Span;
 use units::CLOSED;
 use units::FIRST_STATE;
 use units::GLOBALS_STATE;
@@ -19,20 +23,16 @@ use units::MARK;
 use units::NIL;
 use units::OPEN;
 use units::PHASE;
+use units::Page;
 use units::SLOTS;
 use units::STACKS;
 use units::SWEEP;
 use units::UNSWEPT_FLAG;
 
-// What an unswept span's kind has more, and the end of the kinds with it.
-const UNSWEPT: usize = UNSWEPT_FLAG as usize;
+// The end of the kinds, with the unswept flag.
+const ENTRIES_END: usize = 2 * UNSWEPT_FLAG as usize;
 
-const FLAGS_END: usize = 2 * UNSWEPT;
-
-// The kinds: 67 classes, scan and noscan.
-const KINDS: usize = classes::KINDS as usize;
-
-// The pages of a span of class 0.
+// The pages of a span of class 0, at least and at most.
 const FEWEST_LARGE: usize = 5;
 
 const MOST_LARGE: usize = 128;
@@ -112,18 +112,21 @@ pub fn states_ok(roots: &[u64]) -> bool
     stacks_ok(roots)
 }
 
-// The kind is one of the 134, at most with the unswept flag, and the page count is its class's.
-fn entry_ok(kind: usize, count: usize) -> bool
-    ensures { λ r. ⌜ (T r ↔ GoodEntry kind count) ⌝ }
+// The kind is that of one of the classes, at most with the unswept flag, and the page count is its
+// class's.
+fn entry_ok(span: Span) -> bool
+    requires { ⌜ span .class ≡ span .entry % unsweptFlag / 2 ⌝ }
+    ensures { λ r. ⌜ (T r ↔ GoodEntry (span .entry) (span .pages)) ⌝ }
 {
-    if FLAGS_END <= kind {
+    let entry = span.entry;
+    let class = span.class;
+    let count = span.pages;
+    if ENTRIES_END <= entry {
         return false;
     }
-    let plain = kind % UNSWEPT;
-    if KINDS <= plain {
+    if classes::ROWS < class {
         return false;
     }
-    let class = plain / 2;
     if class != 0 {
         return count == classes::class_pages(class);
     }
@@ -133,90 +136,100 @@ fn entry_ok(kind: usize, count: usize) -> bool
     count <= MOST_LARGE
 }
 
-// The kind is that of a swept span, but in the sweep phase.
-fn flag_ok(kind: usize, phase: u64) -> bool
-    ensures { λ r. ⌜ (T r ↔ (phase ≢ sweep → kind < unsweptFlag)) ⌝ }
+// The span is swept, but in the sweep phase.
+fn flag_ok(unswept: bool, phase: u64) -> bool
+    ensures { λ r. ⌜ (T r ↔ (phase ≢ sweep → unswept ≡ false)) ⌝ }
 {
     if phase == SWEEP {
         return true;
     }
-    kind < UNSWEPT
+    !unswept
+}
+
+// The entry of page g has neither a page count nor a kind.
+fn bare_entry(table: &[u32], g: Page) -> bool
+    requires { ⌜ HasEntry (now table) (g .0) ⌝ }
+    ensures { λ r. ⌜ (T r ↔ BareEntry (now (table .entry)) (g .0)) ⌝ }
+{
+    if page_table::page_count(table, g) != 0 {
+        return false;
+    }
+    page_table::kind_entry(table, g) == 0
 }
 
 // Page g is a further page of the span at page s.
-fn further_ok(table: &[u32], s: usize, g: usize) -> bool
-    requires { ⌜ HasEntry (now table) g × (s < g) ⌝ }
-    ensures { λ r. ⌜ (T r ↔ Further (now (table .entry)) s g) ⌝ }
+fn further_ok(table: &[u32], s: Page, g: Page) -> bool
+    requires { ⌜ HasEntry (now table) (g .0) × (s .0 < g .0) ⌝ }
+    ensures { λ r. ⌜ (T r ↔ Further (now (table .entry)) (s .0) (g .0)) ⌝ }
 {
-    if pages::owner(table, g) != s + 1 {
+    let start = s.0;
+    if page_table::owner(table, g) != start + 1 {
         return false;
     }
-    if pages::page_count(table, g) != 0 {
-        return false;
-    }
-    pages::kind_entry(table, g) == 0
+    bare_entry(table, g)
 }
 
 // So are all pages of the span at page s but its first.
-fn body_ok(p: usize, table: &[u32], s: usize, count: usize) -> bool
-    requires { ⌜ PageTable p (now table) × (s + count ≤ p) × (count ≡ pageCount (now table) s) ⌝ }
-    ensures { λ r. ⌜ (T r ↔ Body (now (table .entry)) s) ⌝ }
+fn body_ok(p: usize, table: &[u32], s: Page, count: usize) -> bool
+    requires { ⌜ PageTable p (now table) × (s .0 + count ≤ p) × (count ≡ pageCount (now table) (s .0)) ⌝ }
+    ensures { λ r. ⌜ (T r ↔ Body (now (table .entry)) (s .0)) ⌝ }
 {
-    let end = s + count;
-    let mut g = s + 1;
+    let start = s.0;
+    let end = start + count;
+    let mut g = start + 1;
     while g < end {
         let at = g;
         g += 1;
-        if !further_ok(table, s, at) {
+        if !further_ok(table, s, Page(at)) {
             return false;
         }
     }
     true
 }
 
-// The span that starts at page s is as it should be.
-fn span_ok(p: usize, table: &[u32], phase: u64, s: usize) -> bool
-    requires { ⌜ PageTable p (now table) × (p ≤ maxPages) × (s < p) ⌝ }
-    ensures { λ r. ⌜ (T r ↔ GoodSpan p phase (now (table .entry)) s) ⌝ }
+// The span is as it should be.
+fn span_ok(p: usize, table: &[u32], phase: u64, span: Span) -> bool
+    requires { ⌜
+        PageTable p (now table) × (p ≤ maxPages) × (span .start .0 < p) ×
+        Reads (now table) (span .start .0) span ⌝ }
+    ensures { λ r. ⌜ (T r ↔ GoodSpan p phase (now (table .entry)) (span .start .0)) ⌝ }
 {
-    let kind = pages::kind_entry(table, s);
-    let count = pages::page_count(table, s);
-    if !entry_ok(kind, count) {
+    let start = span.start.0;
+    let count = span.pages;
+    if !entry_ok(span) {
         return false;
     }
-    if p - s < count {
+    if p - start < count {
         return false;
     }
-    if !flag_ok(kind, phase) {
+    if !flag_ok(span.unswept, phase) {
         return false;
     }
-    body_ok(p, table, s, count)
+    body_ok(p, table, span.start, count)
 }
 
 // How many pages there are to pass at page g, where no span is under way: one free page, or a whole
 // span. 0 is a fault.
-fn passed(p: usize, table: &[u32], phase: u64, g: usize) -> usize
-    requires { ⌜ PageTable p (now table) × (p ≤ maxPages) × (g < p) ⌝ }
-    ensures { λ r. ⌜ PassedPages p phase (now (table .entry)) g r ⌝ }
+fn passed(p: usize, table: &[u32], phase: u64, g: Page) -> usize
+    requires { ⌜ PageTable p (now table) × (p ≤ maxPages) × (g .0 < p) ⌝ }
+    ensures { λ r. ⌜ PassedPages p phase (now (table .entry)) (g .0) r ⌝ }
 {
-    let owner = pages::owner(table, g);
-    let count = pages::page_count(table, g);
+    let at = g.0;
+    let owner = page_table::owner(table, g);
     if owner == 0 {
-        if count != 0 {
-            return 0;
-        }
-        if pages::kind_entry(table, g) != 0 {
+        if !bare_entry(table, g) {
             return 0;
         }
         return 1;
     }
-    if owner != g + 1 {
+    if owner != at + 1 {
         return 0;
     }
-    if !span_ok(p, table, phase, g) {
+    let span = page_table::span_at(table, g);
+    if !span_ok(p, table, phase, span) {
         return 0;
     }
-    count
+    span.pages
 }
 
 // The page table of p pages is as it should be in this phase.
@@ -226,7 +239,7 @@ pub fn pages_ok(p: usize, table: &[u32], phase: u64) -> bool
 {
     let mut g = 0;
     while g < p {
-        let n = passed(p, table, phase, g);
+        let n = passed(p, table, phase, Page(g));
         g += n;
         if n == 0 {
             return false;

@@ -3,14 +3,14 @@ use Prim.Native.Nat.{ℕ, _+_, _-_, _*_, _/_, _%_, _^_, _<_, _≤_}
 use mathlib.Core.Bool.{Bool, true, false, cond}
 use mathlib.Core.List.{List}
 use mathlib.Core.Logic.{_⊎_, inl, inr, _≢_, _↔_}
-use mathlib.Core.Path.{_≡_, refl, _∙_, ap}
+use mathlib.Core.Path.{_≡_, refl, sym, _∙_, ap}
 use native.Mathlib.Nat.{lt-of-not-le}
 use native.Mathlib.Omega.{arith}
 use lib.Count.{trailingZeros}
 use lib.Dec.{T, eqb, ltb}
 use lib.ListN.{getD}
 use lib.Pow.{pow-pos}
-use borrow.Author.Tests.{ltb-true, ltb-false, lt-leb, eqb-true, eqb-false}
+use borrow.Author.Tests.{ltb-true, ltb-false, lt-leb, leb-false, eqb-true, eqb-false}
 use Rattle.model.specs.Memory.{pageWords, pageBlocks, unsweptFlag}
 use Rattle.model.specs.Bitmaps.{bitOf, bitAt, withBitOf, allocated, pointer}
 use Rattle.model.specs.Spans.{pageCount, kindEntry, spanOf, elementOf, elementWords}
@@ -21,6 +21,8 @@ use Rattle.model.specs.Facts.{IsSpan, Reference, bit, keptAt}
 use Rattle.model.proofs.Spans.{at-home, round, whole}
 use Rattle.model.proofs.Named.{kept-allocated}
 use Rattle.bitmap.proofs.Bits.{trailing-first}
+use Rattle.page_table.specs.Span.{Reads}
+use Rattle.page_table.specs.declared.Span.{Span}
 use Rattle.audit_words.specs.Contents.{Filled, BlockContents, BlocksContents, SpanContents}
 
 -- the lowest bit of a word that is not 0
@@ -125,7 +127,7 @@ module _ (p : ℕ) (a t b : List ℕ) (F : Filled p a t b) where
   kept-swept w l x = rw (lt-leb unsweptFlag (kindEntry t (spanOf t w)) l) x
 
   -- .. and each pointer bit belongs to a kept element
-  pub swept-span : (s : ℕ) → IsSpan t s → kindEntry t s < unsweptFlag → BlocksContents p a t b (pageBlocks * s) (pageBlocks * s + pageBlocks * pageCount t s) ↔ SpanContents p a t b s
+  swept-span : (s : ℕ) → IsSpan t s → kindEntry t s < unsweptFlag → BlocksContents p a t b (pageBlocks * s) (pageBlocks * s + pageBlocks * pageCount t s) ↔ SpanContents p a t b s
   swept-span s i k = (there, back)
     where
       there : BlocksContents p a t b (pageBlocks * s) (pageBlocks * s + pageBlocks * pageCount t s) → SpanContents p a t b s
@@ -143,3 +145,11 @@ module _ (p : ℕ) (a t b : List ℕ) (F : Filled p a t b) where
           let h = at-home (F .consistent .spans) s (elementOf t w) i low (omega (arith, r .1)) .1 in
           let z : elementOf t w + (w - elementOf t w) ≡ w = omega (arith, r .1) in
           rw z at (g (elementOf t w) low (omega (arith, r .1)) (kept-swept (elementOf t w) (rw h k) (f .2)) (w - elementOf t w) (omega (arith, r .1, r .2, ap (elementWords t) e)) (rw z y))
+
+  -- .. as it was read
+  pub read-swept : {s : ℕ} {r : Span} → Reads t s r → IsSpan t s → r .unswept ≡ false → (x : Bool) →
+      T x ↔ BlocksContents p a t b (pageBlocks * s) (pageBlocks * s + pageBlocks * r .pages) → T x ↔ SpanContents p a t b s
+  read-swept {s} R i u x f =
+      let both = swept-span s i (leb-false _ _ (sym (R .unswept) ∙ u)) in
+      let told = rw (R .pages) at f in
+      (λ y. both .0 (told .0 y), λ g. told .1 (both .1 g))

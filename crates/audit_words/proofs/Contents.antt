@@ -1,29 +1,37 @@
 -- Pointer words: of one element, of the kept elements of one span, found by their bits, and of all spans.
-use Prim.Native.Nat.{ℕ, _+_, _-_, _*_, _/_, _%_, _<_, _≤_}
+use Prim.Native.Nat.{ℕ, _+_, _-_, _*_, _<_, _≤_}
 use mathlib.Core.Bool.{Bool, true, false, not}
 use mathlib.Core.List.{List}
+use mathlib.Core.Logic.{_↔_}
 use mathlib.Core.Path.{_≡_, refl, sym, _∙_, ap}
 use native.Mathlib.Omega.{arith}
 use lib.Dec.{T, eqb, ltb}
 use lib.ListN.{getD}
-use borrow.Author.Tests.{ltb-true, ltb-false, eqb-true, eqb-false}
-use Rattle.model.specs.Classes.{rows, mostLarge}
-use Rattle.model.specs.Memory.{pageWords, unsweptFlag}
+use borrow.Author.Tests.{ltb-true, ltb-false, eqb-true, eqb-false, ne-eqb}
+use Rattle.model.specs.Classes.{rows, mostLarge, elementWordsOf}
+use Rattle.model.specs.Memory.{pageWords}
 use Rattle.model.specs.Bounded.{firstBelow}
 use Rattle.model.specs.Bitmaps.{bitAt, pointer}
-use Rattle.model.specs.Spans.{pageCount, kindEntry, isScan, spanOf, elementOf, elementWords}
+use Rattle.model.specs.Spans.{owner, pageCount, isScan, isUnswept, spanOf, elementOf, elementWords}
+use Rattle.model.proofs.Answers.{yes, no}
 use Rattle.model.proofs.Tests.{is-true, of-true, clash}
 use Rattle.model.proofs.Bounded.{first-props}
 use Rattle.model.specs.Facts.{IsSpan, Element, Reference, bit, keptAt}
 use Rattle.model.proofs.Spans.{at-home, span-of, in-span, own-word, round, whole, fits}
 use Rattle.model.proofs.Named.{kept-allocated}
 use Rattle.model.proofs.Facts.{no-pointer}
-use Rattle.audit_words.specs.Contents.{Filled, ElementAt, Pointers, SpanContents, Contents, Searched, ContentsBelow, keptFrom}
+use Rattle.page_table.specs.Span.{Reads}
+use Rattle.page_table.specs.declared.Span.{Span}
+use Rattle.audit_words.specs.Contents.{PassedContents, Filled, ElementAt, Pointers, SpanContents, Contents, Searched, ContentsBelow, keptFrom}
 use Rattle.audit_words.proofs.References.{kept-is, from-bound}
 
 -- where the first set bit from `at` on stands
 pub found-range : (b : List ℕ) (at end j : ℕ) → j ≡ at + firstBelow (end - at) (λ k. bitAt b (at + k)) → at < end → (at ≤ j) × (j ≤ end)
 found-range b at end j e l = (omega arith, omega (arith, first-props (end - at) (λ k. bitAt b (at + k)) .within))
+
+-- a step of the pass, at a free page
+pub free-page : (p : ℕ) (a t b : List ℕ) (g : ℕ) → owner t g ≡ 0 → PassedContents p a t b g 1
+free-page p a t b g e = record { pages = λ _. rw e; words = λ _ i. absurd (omega arith); fault = λ z. absurd (omega arith) }
 
 module _ (p : ℕ) (a t b : List ℕ) (F : Filled p a t b) where
   -- one element
@@ -52,20 +60,54 @@ module _ (p : ℕ) (a t b : List ℕ) (F : Filled p a t b) where
   -- the kept elements of the span at page s
 
   -- what its entry gives
-  pub searched : (s n from end : ℕ) → IsSpan t s → n ≡ elementWords t s → from ≡ keptFrom p (kindEntry t s) → end ≡ from + pageWords * (s + pageCount t s) → Searched p t s n from end
+  searched : (s n from end : ℕ) → IsSpan t s → n ≡ elementWords t s → from ≡ keptFrom p (isUnswept t s) → end ≡ from + pageWords * (s + pageCount t s) → Searched p t s n from end
   searched s n from end i size start stop =
-      record { span = i; size = size; start = start; stop = stop; low = omega (arith, from-bound p (kindEntry t s)); inside = F .consistent .spans .inside s i }
+      record { span = i; size = size; start = start; stop = stop; low = omega (arith, from-bound p (isUnswept t s)); inside = F .consistent .spans .inside s i }
 
-  pub class-fits : (s : ℕ) → IsSpan t s → (kindEntry t s % unsweptFlag / 2 ≤ rows) × (pageCount t s ≤ mostLarge) × (s + pageCount t s ≤ p)
-  class-fits s i = let e = F .consistent .spans .entry s i in (omega (arith, e .kind), fits (F .consistent .spans) s i .short, F .consistent .spans .inside s i)
+  pub each-span : Contents p a t b → (s : ℕ) → IsSpan t s → SpanContents p a t b s
+  each-span h s i w l m x f n y =
+      let E = F .consistent .rules .element w (kept-allocated (F .consistent .rules) w x) in
+      let e = at-home (F .consistent .spans) s w i l m .1 in
+      let o = own-word (F .consistent .spans) w f E (rw e n) .0 in
+      h (w + f) y (rw o x)
 
-  module _ (s n from end : ℕ) (S : Searched p t s n from end) where
-    kept-bit : (w : ℕ) → pageWords * s ≤ w → from + w < end → bitAt b (from + w) ≡ keptAt p t b w
-    kept-bit w l m = kept-is p t b s w from (at-home (F .consistent .spans) s w (S .span) l (omega (arith, S .stop)) .1) (S .start) (omega (arith, S .stop, S .inside))
+  -- .. as it was read
+  module _ {s : ℕ} {r : Span} (R : Reads t s r) (i : IsSpan t s) where
+    pub read-fits : (r .class ≤ rows) × (r .pages ≤ mostLarge) × (s + r .pages ≤ p)
+    read-fits =
+        let e = F .consistent .spans .entry s i in
+        (rw (R .class) (omega (arith, e .kind)), rw (R .pages) (fits (F .consistent .spans) s i .short), rw (R .pages) (F .consistent .spans .inside s i))
+
+    pub read-searched : (n from end : ℕ) → n ≡ elementWordsOf (r .class) (r .pages) → from ≡ keptFrom p (r .unswept) → end ≡ from + pageWords * (s + r .pages) → Searched p t s n from end
+    read-searched n from end size start stop = searched s n from end i (rw (R .class, R .pages) at size) (rw (R .unswept) at start) (rw (R .pages) at stop)
+
+    -- a step of the pass, at the first page of a span
+    pub span-passed : (T (isScan t s) → SpanContents p a t b s) → PassedContents p a t b s (r .pages)
+    span-passed C = record {
+      pages = λ _. rw (ne-eqb (owner t s) 0 (omega arith)) (R .pages);
+      words = λ _ _. C;
+      fault = λ z. absurd (omega (arith, R .pages, fits (F .consistent .spans) s i .pages));
+    }
+
+    pub plain-span : r .scan ≡ false → PassedContents p a t b s (r .pages)
+    plain-span e = span-passed (λ x. clash (isScan t s) (of-true _ x) (sym (R .scan) ∙ e))
+
+    own : (x : Bool) → T x ↔ SpanContents p a t b (r .start .0) → T x ↔ SpanContents p a t b s
+    own x f = rw (R .start) at f
+
+    pub bad-span : (x : Bool) → T x ↔ SpanContents p a t b (r .start .0) → not x ≡ true → PassedContents p a t b s 0
+    bad-span x f e = record { pages = λ z. absurd (z refl); words = λ z. absurd (z refl); fault = λ _ C. no x (own x f) e (each-span C s i) }
+
+    pub good-span : (x : Bool) → T x ↔ SpanContents p a t b (r .start .0) → not x ≡ false → PassedContents p a t b s (r .pages)
+    good-span x f e = span-passed (λ _. yes x (own x f) e)
+
+  module _ (s n from end : ℕ) (S : Searched p t s n from end) (first : ℕ) (e : first ≡ pageWords * s) where
+    kept-bit : (w : ℕ) → first ≤ w → from + w < end → bitAt b (from + w) ≡ keptAt p t b w
+    kept-bit w l m = kept-is p t b s w from (at-home (F .consistent .spans) s w (S .span) (omega arith) (omega (arith, S .stop)) .1) (S .start) (omega (arith, S .stop, S .inside))
 
     -- the first bit from `at` on is j, or `end`
-    module _ (at j : ℕ) (low : from + pageWords * s ≤ at) (found : j ≡ at + firstBelow (end - at) (λ k. bitAt b (at + k))) (h : ContentsBelow p a t b s n from end at) where
-      passed : ContentsBelow p a t b s n from end j
+    module _ (at j : ℕ) (low : from + first ≤ at) (found : j ≡ at + firstBelow (end - at) (λ k. bitAt b (at + k))) (h : ContentsBelow p a t b first n from end at) where
+      passed : ContentsBelow p a t b first n from end j
       passed w l m q x = go (ltb (from + w) at) refl
         where
           go : (c : Bool) → ltb (from + w) at ≡ c → Pointers p a t b w n
@@ -74,7 +116,7 @@ module _ (p : ℕ) (a t b : List ℕ) (F : Filled p a t b) where
               let z : at + (from + w - at) ≡ from + w = omega (arith, ltb-false (from + w) at e) in
               clash (keptAt p t b w) (of-true _ x) (sym (kept-bit w l q) ∙ rw z at (first-props (end - at) (λ k. bitAt b (at + k)) .before (from + w - at) (omega (arith, ltb-false (from + w) at e))))
 
-      pub next : (j < end → Pointers p a t b (j - from) n) → ContentsBelow p a t b s n from end (j + 1)
+      pub next : (j < end → Pointers p a t b (j - from) n) → ContentsBelow p a t b first n from end (j + 1)
       next y w l m q x = go (eqb (from + w) j) refl
         where
           go : (c : Bool) → eqb (from + w) j ≡ c → Pointers p a t b w n
@@ -82,7 +124,7 @@ module _ (p : ℕ) (a t b : List ℕ) (F : Filled p a t b) where
           go false e = passed w l (omega (arith, eqb-false (from + w) j e)) q x
 
     -- .. and is set
-    module _ (at j : ℕ) (low : from + pageWords * s ≤ at) (found : j ≡ at + firstBelow (end - at) (λ k. bitAt b (at + k))) (l : j < end) where
+    module _ (at j : ℕ) (low : from + first ≤ at) (found : j ≡ at + firstBelow (end - at) (λ k. bitAt b (at + k))) (l : j < end) where
       found-kept : T (keptAt p t b (j - from))
       found-kept =
           let z : from + (j - from) ≡ j = omega arith in
@@ -100,17 +142,10 @@ module _ (p : ℕ) (a t b : List ℕ) (F : Filled p a t b) where
       pub found-pointers : SpanContents p a t b s → Pointers p a t b (j - from) n
       found-pointers g = rw (S .size) (g (j - from) (omega arith) (omega (arith, S .stop)) found-kept)
 
-    pub all : (at : ℕ) → end ≤ at → ContentsBelow p a t b s n from end at → SpanContents p a t b s
-    all at l h w m q x = rw (S .size) at (h w m (omega (arith, S .stop)) (omega (arith, S .stop)) x)
+    pub all : (at : ℕ) → end ≤ at → ContentsBelow p a t b first n from end at → SpanContents p a t b s
+    all at l h w m q x = rw (S .size) at (h w (omega arith) (omega (arith, S .stop)) (omega (arith, S .stop)) x)
 
   -- all spans
-
-  pub each-span : Contents p a t b → (s : ℕ) → IsSpan t s → SpanContents p a t b s
-  each-span h s i w l m x f n y =
-      let E = F .consistent .rules .element w (kept-allocated (F .consistent .rules) w x) in
-      let e = at-home (F .consistent .spans) s w i l m .1 in
-      let o = own-word (F .consistent .spans) w f E (rw e n) .0 in
-      h (w + f) y (rw o x)
 
   pub every-span : ((s : ℕ) → s < p → IsSpan t s → T (isScan t s) → SpanContents p a t b s) → Contents p a t b
   every-span h w y x =

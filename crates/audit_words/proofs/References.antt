@@ -1,18 +1,17 @@
 -- Kept elements and references: what the tests of one value come to.
-use Prim.Native.Nat.{ℕ, _+_, _*_, _/_, _%_, _<_, _≤_}
+use Prim.Native.Nat.{ℕ, _+_, _*_, _/_, _<_, _≤_}
 use mathlib.Core.Bool.{Bool, true, false, not, cond}
 use mathlib.Core.List.{List}
 use mathlib.Core.Logic.{_≢_, _↔_, inl, inr}
 use mathlib.Core.Path.{_≡_, refl, sym, _∙_}
 use native.Mathlib.Omega.{arith}
 use lib.Dec.{T, eqb, leb}
-use borrow.Author.Tests.{eqb-true, eqb-false, le-leb, lt-leb}
+use borrow.Author.Tests.{eqb-true, eqb-false}
 use Rattle.model.specs.Memory.{addressOf, wordOf, pageWords, unsweptFlag}
 use Rattle.model.specs.Bitmaps.{bitAt, allocated, marked, pointer}
-use Rattle.model.specs.Spans.{owner, kindEntry, isScan, spanOf}
-use Rattle.model.proofs.Tests.{eqb-iff}
+use Rattle.model.specs.Spans.{owner, kindEntry, isUnswept, spanOf}
 use Rattle.model.proofs.Bitmaps.{bit-in, bit-inside}
-use Rattle.model.specs.Facts.{Spans, IsSpan, Reference, bit, keptAt, unsweptAt}
+use Rattle.model.specs.Facts.{Spans, Reference, bit, keptAt, unsweptAt}
 use Rattle.model.specs.Lent.{AllSwept}
 use Rattle.model.proofs.Facts.{swept-all}
 use Rattle.audit_words.specs.Contents.{keptFrom}
@@ -26,7 +25,7 @@ span-below {p} {t} F w l = go (eqb (owner t (w / pageWords)) 0) refl
     go false e = omega (arith, F .whose (w / pageWords) (omega (arith, eqb-false (owner t (w / pageWords)) 0 e)) .1)
 
 -- the bit that says whether an element is kept
-pub kept-is : (p : ℕ) (t b : List ℕ) (s w from : ℕ) → spanOf t w ≡ s → from ≡ keptFrom p (kindEntry t s) → w < pageWords * p → bitAt b (from + w) ≡ keptAt p t b w
+pub kept-is : (p : ℕ) (t b : List ℕ) (s w from : ℕ) → spanOf t w ≡ s → from ≡ keptFrom p (isUnswept t s) → w < pageWords * p → bitAt b (from + w) ≡ keptAt p t b w
 kept-is p t b s w from e f l = rw (f, ← e) (go (leb unsweptFlag (kindEntry t (spanOf t w))))
   where
     go : (u : Bool) → bitAt b (cond u (pageWords * p) 0 + w) ≡ cond u (bit p marked b w) (bit p allocated b w)
@@ -38,18 +37,9 @@ pub kept-told : {p : ℕ} {t : List ℕ} → Spans p t → AllSwept t → (b : L
 kept-told {p} {t} F Q b w l = rw (swept-all F Q (spanOf t w)) (sym (bit-in (pageWords * p) allocated b w l))
 
 -- where it stands: past all allocated bits, or not
-pub from-unswept : (p kind : ℕ) → unsweptFlag ≤ kind → pageWords * p ≡ keptFrom p kind
-from-unswept p kind h = rw (le-leb unsweptFlag kind h)
-
-pub from-swept : (p kind : ℕ) → kind < unsweptFlag → 0 ≡ keptFrom p kind
-from-swept p kind h = rw (lt-leb unsweptFlag kind h)
-
-pub from-bound : (p kind : ℕ) → keptFrom p kind ≤ pageWords * p
-from-bound p kind = go (leb unsweptFlag kind)
-  where
-    go : (u : Bool) → cond u (pageWords * p) 0 ≤ pageWords * p
-    go true = omega arith
-    go false = omega arith
+pub from-bound : (p : ℕ) (unswept : Bool) → keptFrom p unswept ≤ pageWords * p
+from-bound p true = omega arith
+from-bound p false = omega arith
 
 pub kept-inside : (p : ℕ) (t b : List ℕ) (w : ℕ) → T (keptAt p t b w) → w < pageWords * p
 kept-inside p t b w = go (unsweptAt t w)
@@ -63,11 +53,6 @@ pub pointer-is : (p : ℕ) (b : List ℕ) (w f at : ℕ) → at ≡ 3 * (pageWor
 pointer-is p b w f at e l =
     let z : at ≡ 3 * (pageWords * p) + (w + f) = omega arith in
     rw z (sym (bit-in (pageWords * p) pointer b (w + f) l))
-
--- a scan span starts at page s
-pub scan-iff : (t : List ℕ) (s kind : ℕ) → IsSpan t s → kind ≡ kindEntry t s → T (eqb (kind % 2) 0) ↔ (IsSpan t s × T (isScan t s))
-scan-iff t s kind i e =
-    (λ x. (i, eqb-iff (kindEntry t s % unsweptFlag % 2) 0 .1 (omega (arith, eqb-iff (kind % 2) 0 .0 x))), λ h. eqb-iff (kind % 2) 0 .1 (omega (arith, eqb-iff (kindEntry t s % unsweptFlag % 2) 0 .0 (h .1))))
 
 pub not-nil : (v : ℕ) (n : Bool) → n ≡ eqb v 0 → n ≡ false → v ≢ 0
 not-nil v n e q = eqb-false v 0 (sym e ∙ q)
@@ -86,10 +71,13 @@ module _ (p : ℕ) (t b : List ℕ) (v : ℕ) where
   past-arena d l (inl z) = d z
   past-arena d l (inr x) = omega (arith, kept-inside p t b (wordOf v) (x .1))
 
-  pub names-kept : v ≢ 0 → (m : Bool) → m ≡ eqb v (addressOf (wordOf v)) → not m ≡ false → (r : Bool) → r ≡ keptAt p t b (wordOf v) → T r ↔ Reference p t b v
-  names-kept d false e q r k = absurd (mathlib.Core.Bool.true≢false q)
-  names-kept d true e q r k = (λ x. inr (eqb-true v (addressOf (wordOf v)) (sym e), rw k at x), back)
+  pub names-kept : v ≢ 0 → (m : Bool) → m ≡ eqb v (addressOf (wordOf v)) → not m ≡ false → (w : ℕ) → w ≡ wordOf v → (r : Bool) → r ≡ keptAt p t b w → T r ↔ Reference p t b v
+  names-kept d false e q w z r h = absurd (mathlib.Core.Bool.true≢false q)
+  names-kept d true e q w z r h = (λ x. inr (eqb-true v (addressOf (wordOf v)) (sym e), rw k at x), back)
     where
+      k : r ≡ keptAt p t b (wordOf v)
+      k = rw z at h
+
       back : Reference p t b v → T r
-      back (inl z) = absurd (d z)
+      back (inl y) = absurd (d y)
       back (inr x) = rw k (x .1)

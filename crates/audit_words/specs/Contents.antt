@@ -2,15 +2,17 @@
 use Prim.Native.Nat.{ℕ, _+_, _*_, _<_, _≤_}
 use mathlib.Core.Bool.{Bool, true, cond}
 use mathlib.Core.List.{List}
+use mathlib.Core.Logic.{_≢_}
 use mathlib.Core.Path.{_≡_}
 use lib.Dec.{T}
 use lib.ListN.{length, getD}
-use Rattle.model.specs.Bounded.{_==_, _≤?_}
-use Rattle.model.specs.Memory.{pageWords, wordBits, firstWord, unsweptFlag}
+use Rattle.model.specs.Bounded.{_==_}
+use Rattle.model.specs.Memory.{pageWords, wordBits, firstWord}
 use Rattle.model.specs.Bitmaps.{pointer, bitOf}
-use Rattle.model.specs.Spans.{pageCount, kindEntry, elementOf, elementWords, spanOf}
+use Rattle.model.specs.Spans.{pageCount, isScan, isUnswept, elementOf, elementWords, spanOf}
 use Rattle.model.specs.Facts.{IsSpan, Element, Reference, bit, keptAt}
 use Rattle.model.specs.Lent.{Consistent, AllSwept}
+use Rattle.audit_pages.specs.Stretch.{stretch}
 
 -- a page table and bitmaps that are as they should be, and an arena of as many pages
 pub record Filled (p : ℕ) (a t b : List ℕ) : Type 0 where
@@ -21,9 +23,9 @@ pub record Filled (p : ℕ) (a t b : List ℕ) : Type 0 where
 abbrev pub Told : Bool → List ℕ → Type 0
 Told swept t = swept ≡ true → AllSwept t
 
--- the bit at which the part starts that says which elements of a span with this kind are kept: marked in an unswept one, else allocated
-abbrev pub keptFrom : ℕ → ℕ → ℕ
-keptFrom p kind = cond (unsweptFlag ≤? kind) (pageWords * p) 0
+-- the bit at which the part starts that says which elements of a span are kept: marked in an unswept one, else allocated
+abbrev pub keptFrom : ℕ → Bool → ℕ
+keptFrom p unswept = cond unswept (pageWords * p) 0
 
 -- the roots from `from` on and before `to` are references
 abbrev pub RootRange : ℕ → List ℕ → List ℕ → List ℕ → ℕ → ℕ → Type 0
@@ -60,12 +62,19 @@ pub record ElementAt (p : ℕ) (t : List ℕ) (w n : ℕ) : Type 0 where
 pub record Searched (p : ℕ) (t : List ℕ) (s n from end : ℕ) : Type 0 where
   pub span : IsSpan t s
   pub size : n ≡ elementWords t s
-  pub start : from ≡ keptFrom p (kindEntry t s)
+  pub start : from ≡ keptFrom p (isUnswept t s)
   pub stop : end ≡ from + firstWord (s + pageCount t s)
   pub low : from ≤ pageWords * p
   pub inside : s + pageCount t s ≤ p
 
--- those whose bit stands below `at` have references in their pointer words
+-- those from word `first` on whose bit stands below `at` have references in their pointer words
 abbrev pub ContentsBelow : ℕ → List ℕ → List ℕ → List ℕ → ℕ → ℕ → ℕ → ℕ → ℕ → Type 0
-ContentsBelow p a t b s n from end at =
-    (w : ℕ) → firstWord s ≤ w → from + w < at → from + w < end → T (keptAt p t b w) → Pointers p a t b w n
+ContentsBelow p a t b first n from end at =
+    (w : ℕ) → first ≤ w → from + w < at → from + w < end → T (keptAt p t b w) → Pointers p a t b w n
+
+-- at page g, which is free or the first of a span, n pages are passed, with references in the pointer words of a scan span's kept elements; 0 is a
+-- fault
+pub record PassedContents (p : ℕ) (a t b : List ℕ) (g n : ℕ) : Type 0 where
+  pub pages : n ≢ 0 → n ≡ stretch t g
+  pub words : n ≢ 0 → IsSpan t g → T (isScan t g) → SpanContents p a t b g
+  pub fault : n ≡ 0 → Contents p a t b → ⊥

@@ -3,70 +3,77 @@
 // a kept element, so the words are found by these bits alone, a bitmap word at a time; in an unswept
 // one they are found by the elements that are marked. Spans without pointers are passed over. Outside
 // the sweep phase no span is unswept, and a reference is tested by one bit, without the page table.
+// The page table has passed the audit; it is passed once more here, from span to span.
 ghost use mathlib.Core.Path.{_≡_};
 ghost use mathlib.Core.Logic.{_↔_};
 ghost use Prim.Native.Nat.{_*_, _<_, _≤_};
 ghost use lib.Dec.{T};
 ghost use Rattle.model.specs.Memory.{maxPages, pageWords, rootWords, firstGlobal, pageBlocks};
-ghost use Rattle.model.specs.Spans.{isScan};
 ghost use Rattle.model.specs.Facts.{IsSpan, Reference, States, keptAt};
-ghost use Rattle.model.specs.Lent.{Roots, HasEntry, Mapped, RootReferences};
-ghost use Rattle.audit_words.specs.Contents.{Filled, Told, ElementAt, Searched, RootRange, keptFrom};
-ghost use Rattle.audit_words.specs.Contents.{Pointers, BlockContents, BlocksContents, SpanContents, Contents};
+ghost use Rattle.model.specs.Lent.{Mapped, RootReferences};
+ghost use Rattle.page_table.specs.Span.{Reads};
+ghost use Rattle.audit_pages.specs.Stretch.{Begins};
+ghost use Rattle.audit_words.specs.Contracts.{FilledHeap, ReadableRoots, atEntry};
+ghost use Rattle.audit_words.specs.Contents.{Told, ElementAt, Searched, RootRange, keptFrom};
+ghost use Rattle.audit_words.specs.Contents.{Pointers, BlockContents, BlocksContents, SpanContents};
+ghost use Rattle.audit_words.specs.Contents.{PassedContents, Contents};
+use page_table::Span;
 use units::Address;
 use units::CLOSED;
 use units::FIRST_GLOBAL;
 use units::FIRST_STATE;
+use units::MARKED_PART;
 use units::PAGE_BLOCKS;
 use units::PAGE_WORDS;
+use units::POINTER_PART;
+use units::Page;
 use units::SLOTS;
 use units::STACKS;
-use units::UNSWEPT_FLAG;
 use units::WORD_BITS;
+use units::Word;
 
-// The parts of the bitmaps before the pointer bits.
-const PARTS_BEFORE: usize = 3;
-
-// Where the bits start that say which elements of a span of this kind are kept.
-fn kept_from(p: usize, kind: usize) -> usize
+// Where the bits start that say which elements of a span are kept.
+fn kept_from(p: usize, unswept: bool) -> usize
     requires { ⌜ p ≤ maxPages ⌝ }
-    ensures { λ r. ⌜ r ≡ keptFrom p kind ⌝ }
+    ensures { λ r. ⌜ r ≡ keptFrom p unswept ⌝ }
 {
-    if UNSWEPT_FLAG as usize <= kind {
-        return PAGE_WORDS * p;
+    if unswept {
+        return MARKED_PART * (PAGE_WORDS * p);
     }
     0
 }
 
 // Word w of the arena starts a kept element. `swept` says that no span is unswept.
-fn kept(p: usize, table: &[u32], bits: &[u64], swept: bool, w: usize) -> bool
-    requires { ⌜ Mapped p (now table) (now bits) × Told swept (now table) × (w < pageWords * p) ⌝ }
-    ensures { λ r. ⌜ r ≡ keptAt p (now (table .entry)) (now (bits .entry)) w ⌝ }
+fn kept(p: usize, table: &[u32], bits: &[u64], swept: bool, w: Word) -> bool
+    requires { ⌜ Mapped p (now table) (now bits) × Told swept (now table) × (w .0 < pageWords * p) ⌝ }
+    ensures { λ r. ⌜ r ≡ keptAt p (now (table .entry)) (now (bits .entry)) (w .0) ⌝ }
 {
+    let at = w.0;
     if swept {
-        return bitmap::test(bits, w);
+        return bitmap::test(bits, at);
     }
-    let s = pages::span_of_word(table, w);
-    let from = kept_from(p, pages::kind_entry(table, s));
-    bitmap::test(bits, from + w)
+    let span = page_table::span_with_word(table, w);
+    let from = kept_from(p, span.unswept);
+    bitmap::test(bits, from + at)
 }
 
 // The value is nil or the address of a kept element.
-pub fn is_reference(p: usize, table: &[u32], bits: &[u64], swept: bool, v: u64) -> bool
+fn is_reference(p: usize, table: &[u32], bits: &[u64], swept: bool, v: Address) -> bool
     requires { ⌜ Mapped p (now table) (now bits) × Told swept (now table) ⌝ }
-    ensures { λ r. ⌜ (T r ↔ Reference p (now (table .entry)) (now (bits .entry)) v) ⌝ }
+    ensures { λ r. ⌜ (T r ↔ Reference p (now (table .entry)) (now (bits .entry)) (v .0)) ⌝ }
 {
-    if Address(v).is_nil() {
+    if v.is_nil() {
         return true;
     }
-    if !Address(v).names_word() {
+    if !v.names_word() {
         return false;
     }
-    let w = Address(v).word();
-    if PAGE_WORDS * p <= w.0 {
+    let w = v.word();
+    let at = w.0;
+    if PAGE_WORDS * p <= at {
         return false;
     }
-    kept(p, table, bits, swept, w.0)
+    kept(p, table, bits, swept, w)
 }
 
 // The roots from word `from` on and before word `to` are references.
@@ -79,16 +86,14 @@ fn range_ok(
     from: usize,
     to: usize,
 ) -> bool
-    requires { ⌜
-        Mapped p (now table) (now bits) × Told swept (now table) × Roots (now roots) × (to ≤ rootWords) ⌝ }
-    ensures { λ r. ⌜
-        (T r ↔ RootRange p (now (table .entry)) (now (bits .entry)) (now (roots .entry)) from to) ⌝ }
+    requires { ⌜ ReadableRoots swept p table bits roots × (to ≤ rootWords) ⌝ }
+    ensures { λ r. ⌜ (T r ↔ atEntry (RootRange p) table bits roots from to) ⌝ }
 {
     let mut i = from;
     while i < to {
         let value = roots[i];
         i += 1;
-        if !is_reference(p, table, bits, swept, value) {
+        if !is_reference(p, table, bits, swept, Address(value)) {
             return false;
         }
     }
@@ -97,10 +102,8 @@ fn range_ok(
 
 // So are the slots of every stack. Those of a closed one are nil.
 fn slots_ok(p: usize, table: &[u32], bits: &[u64], roots: &[u64], swept: bool) -> bool
-    requires { ⌜
-        Mapped p (now table) (now bits) × Told swept (now table) × Roots (now roots) × States (now roots) ⌝ }
-    ensures { λ r. ⌜
-        (T r ↔ RootRange p (now (table .entry)) (now (bits .entry)) (now (roots .entry)) 0 firstGlobal) ⌝ }
+    requires { ⌜ ReadableRoots swept p table bits roots × States (now roots) ⌝ }
+    ensures { λ r. ⌜ (T r ↔ atEntry (RootRange p) table bits roots 0 firstGlobal) ⌝ }
 {
     let mut s = 0;
     while s < STACKS {
@@ -118,9 +121,8 @@ fn slots_ok(p: usize, table: &[u32], bits: &[u64], roots: &[u64], swept: bool) -
 
 // So is every slot and every global.
 pub fn roots_ok(p: usize, table: &[u32], bits: &[u64], roots: &[u64], swept: bool) -> bool
-    requires { ⌜
-        Mapped p (now table) (now bits) × Told swept (now table) × Roots (now roots) × States (now roots) ⌝ }
-    ensures { λ r. ⌜ (T r ↔ RootReferences p (now (table .entry)) (now (bits .entry)) (now (roots .entry))) ⌝ }
+    requires { ⌜ ReadableRoots swept p table bits roots × States (now roots) ⌝ }
+    ensures { λ r. ⌜ (T r ↔ atEntry (RootReferences p) table bits roots) ⌝ }
 {
     if !slots_ok(p, table, bits, roots, swept) {
         return false;
@@ -139,9 +141,8 @@ fn block_ok(
     at: usize,
     pointers: u64,
 ) -> bool
-    requires { ⌜ Filled p (now arena) (now table) (now bits) × Told swept (now table) × (at < pageBlocks * p) ⌝ }
-    ensures { λ r. ⌜
-        (T r ↔ BlockContents p (now (arena .entry)) (now (table .entry)) (now (bits .entry)) at pointers) ⌝ }
+    requires { ⌜ FilledHeap p arena table bits × Told swept (now table) × (at < pageBlocks * p) ⌝ }
+    ensures { λ r. ⌜ (T r ↔ atEntry (BlockContents p) arena table bits at pointers) ⌝ }
 {
     let first = WORD_BITS * at;
     let mut left = pointers;
@@ -149,7 +150,7 @@ fn block_ok(
         let j = u64::trailing_zeros(left) as usize;
         let value = arena[first + j];
         left = left & !(1u64 << j);
-        if !is_reference(p, table, bits, swept, value) {
+        if !is_reference(p, table, bits, swept, Address(value)) {
             return false;
         }
     }
@@ -167,12 +168,10 @@ fn blocks_ok(
     to: usize,
 ) -> bool
     requires { ⌜
-        Filled p (now arena) (now table) (now bits) × Told swept (now table) ×
-        (from ≤ to) × (to ≤ pageBlocks * p) ⌝ }
-    ensures { λ r. ⌜
-        (T r ↔ BlocksContents p (now (arena .entry)) (now (table .entry)) (now (bits .entry)) from to) ⌝ }
+        FilledHeap p arena table bits × Told swept (now table) × (from ≤ to) × (to ≤ pageBlocks * p) ⌝ }
+    ensures { λ r. ⌜ (T r ↔ atEntry (BlocksContents p) arena table bits from to) ⌝ }
 {
-    let part = PARTS_BEFORE * (PAGE_BLOCKS * p);
+    let part = POINTER_PART * (PAGE_BLOCKS * p);
     let mut k = from;
     while k < to {
         let at = k;
@@ -187,20 +186,21 @@ fn blocks_ok(
 
 // The pointer words of the element of n words at word w hold references. Behind the first word that
 // is no pointer there is none.
-fn pointers_ok(p: usize, arena: &[u64], table: &[u32], bits: &[u64], w: usize, n: usize) -> bool
-    requires { ⌜ Filled p (now arena) (now table) (now bits) × ElementAt p (now table) w n ⌝ }
-    ensures { λ r. ⌜ (T r ↔ Pointers p (now (arena .entry)) (now (table .entry)) (now (bits .entry)) w n) ⌝ }
+fn pointers_ok(p: usize, arena: &[u64], table: &[u32], bits: &[u64], w: Word, n: usize) -> bool
+    requires { ⌜ FilledHeap p arena table bits × ElementAt p (now table) (w .0) n ⌝ }
+    ensures { λ r. ⌜ (T r ↔ atEntry (Pointers p) arena table bits (w .0) n) ⌝ }
 {
-    let first = PARTS_BEFORE * (PAGE_WORDS * p) + w;
+    let start = w.0;
+    let first = POINTER_PART * (PAGE_WORDS * p) + start;
     let mut f = 0;
     while f < n {
-        let value = arena[w + f];
+        let value = arena[start + f];
         let at = first + f;
         f += 1;
         if !bitmap::test(bits, at) {
             return true;
         }
-        if !is_reference(p, table, bits, false, value) {
+        if !is_reference(p, table, bits, false, Address(value)) {
             return false;
         }
     }
@@ -214,20 +214,22 @@ fn elements_ok(
     arena: &[u64],
     table: &[u32],
     bits: &[u64],
-    s: usize,
+    s: Page,
     n: usize,
     from: usize,
     end: usize,
 ) -> bool
-    requires { ⌜ Filled p (now arena) (now table) (now bits) × Searched p (now table) s n from end ⌝ }
-    ensures { λ r. ⌜ (T r ↔ SpanContents p (now (arena .entry)) (now (table .entry)) (now (bits .entry)) s) ⌝ }
+    requires { ⌜ FilledHeap p arena table bits × Searched p (now table) (s .0) n from end ⌝ }
+    ensures { λ r. ⌜ (T r ↔ atEntry (SpanContents p) arena table bits (s .0)) ⌝ }
 {
-    let mut at = from + PAGE_WORDS * s;
+    let first = s.first_word().0;
+    let mut at = from + first;
     while at < end {
         let i = bitmap::first_set(bits, at, end);
         at = i + 1;
         if i < end {
-            if !pointers_ok(p, arena, table, bits, i - from, n) {
+            let w = i - from;
+            if !pointers_ok(p, arena, table, bits, Word(w), n) {
                 return false;
             }
         }
@@ -236,55 +238,56 @@ fn elements_ok(
 }
 
 // The same, for the span as its entry describes it.
-fn span_ok(p: usize, arena: &[u64], table: &[u32], bits: &[u64], swept: bool, s: usize) -> bool
+fn span_ok(p: usize, arena: &[u64], table: &[u32], bits: &[u64], swept: bool, span: Span) -> bool
     requires { ⌜
-        Filled p (now arena) (now table) (now bits) × Told swept (now table) × (s < p) × IsSpan (now table) s ⌝ }
-    ensures { λ r. ⌜ (T r ↔ SpanContents p (now (arena .entry)) (now (table .entry)) (now (bits .entry)) s) ⌝ }
+        FilledHeap p arena table bits × Told swept (now table) ×
+        IsSpan (now table) (span .start .0) × Reads (now table) (span .start .0) span ⌝ }
+    ensures { λ r. ⌜ (T r ↔ atEntry (SpanContents p) arena table bits (span .start .0)) ⌝ }
 {
-    let kind = pages::kind_entry(table, s);
-    let count = pages::page_count(table, s);
-    if kind < UNSWEPT_FLAG as usize {
-        let first = PAGE_BLOCKS * s;
-        return blocks_ok(
-            p,
-            arena,
-            table,
-            bits,
-            swept,
-            first,
-            first + PAGE_BLOCKS * count,
-        );
+    let page = span.start.0;
+    let count = span.pages;
+    if !span.unswept {
+        let first = PAGE_BLOCKS * page;
+        let to = first + PAGE_BLOCKS * count;
+        return blocks_ok(p, arena, table, bits, swept, first, to);
     }
-    let n = classes::element_words(kind % UNSWEPT_FLAG as usize / 2, count);
-    let from = kept_from(p, kind);
-    let end = from + PAGE_WORDS * (s + count);
-    elements_ok(p, arena, table, bits, s, n, from, end)
+    let n = classes::element_words(span.class, count);
+    let from = MARKED_PART * (PAGE_WORDS * p);
+    let after = page + count;
+    let end = from + Page(after).first_word().0;
+    elements_ok(p, arena, table, bits, span.start, n, from, end)
 }
 
-// A scan span starts at page s.
-fn scans(table: &[u32], s: usize) -> bool
-    requires { ⌜ HasEntry (now table) s ⌝ }
-    ensures { λ r. ⌜ (T r ↔ (IsSpan (now (table .entry)) s × T (isScan (now (table .entry)) s))) ⌝ }
+// How many pages there are to pass at page g: one free page, or a whole span. In a scan span the
+// pointer words of kept elements hold references; 0 is a fault.
+fn passed(p: usize, arena: &[u64], table: &[u32], bits: &[u64], swept: bool, g: Page) -> usize
+    requires { ⌜ FilledHeap p arena table bits × Told swept (now table) × Begins p (now table) (g .0) ⌝ }
+    ensures { λ r. ⌜ atEntry (PassedContents p) arena table bits (g .0) r ⌝ }
 {
-    if pages::owner(table, s) != s + 1 {
-        return false;
+    if page_table::owner(table, g) == 0 {
+        return 1;
     }
-    pages::kind_entry(table, s) % 2 == 0
+    let span = page_table::span_at(table, g);
+    if !span.scan {
+        return span.pages;
+    }
+    if !span_ok(p, arena, table, bits, swept, span) {
+        return 0;
+    }
+    span.pages
 }
 
 // Every pointer word of a kept element holds a reference.
 pub fn contents_ok(p: usize, arena: &[u64], table: &[u32], bits: &[u64], swept: bool) -> bool
-    requires { ⌜ Filled p (now arena) (now table) (now bits) × Told swept (now table) ⌝ }
-    ensures { λ r. ⌜ (T r ↔ Contents p (now (arena .entry)) (now (table .entry)) (now (bits .entry))) ⌝ }
+    requires { ⌜ FilledHeap p arena table bits × Told swept (now table) ⌝ }
+    ensures { λ r. ⌜ (T r ↔ atEntry (Contents p) arena table bits) ⌝ }
 {
-    let mut s = 0;
-    while s < p {
-        let at = s;
-        s += 1;
-        if scans(table, at) {
-            if !span_ok(p, arena, table, bits, swept, at) {
-                return false;
-            }
+    let mut g = 0;
+    while g < p {
+        let n = passed(p, arena, table, bits, swept, Page(g));
+        g += n;
+        if n == 0 {
+            return false;
         }
     }
     true

@@ -7,6 +7,8 @@ use native.Mathlib.Omega.{arith}
 use lib.Count.{trailingZeros, under}
 use lib.Dec.{eqb, lit<}
 use lib.Pow.{shl-exact}
+use mir.Syntax.{w64}
+use mir.Val.{Fits}
 use Rattle.model.specs.Bitmaps.{bitOf}
 use Rattle.model.proofs.Bitmaps.{bit-zero, bit-suc}
 use Rattle.model.proofs.Bounded.{First}
@@ -29,3 +31,7 @@ trailing-first (suc n) w = go (w % 2) (bit-zero w) (omega arith) (trailing-first
         later (suc k) m = rw bit-suc (f .before k (omega arith))
     go (suc zero) e l f = record { within = omega arith; before = λ k m. absurd (omega arith); holds = λ m. rw e }
     go (suc (suc b)) e l f = absurd (omega arith)
+
+-- .. and their number fits any word
+pub trailing-fits : (w : ℕ) → Fits w64 (trailingZeros 64 w)
+trailing-fits w = omega (arith, trailing-first 64 w .within)

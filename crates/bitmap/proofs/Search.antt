@@ -1,5 +1,5 @@
 -- The search for the lowest bit that passes a test, from a bit on: the masks of its words, and what it answers. `first_set` asks for a set bit; the
--- searches of crate bitsearch have tests of their own.
+-- searches of crate bitmap_search have tests of their own.
 use Prim.Native.Nat.{ℕ, _+_, _-_, _*_, _/_, _%_, _^_, _<_, _≤_, min}
 use mathlib.Core.Bool.{Bool, true, false, cond, _&&_, and-true, and-false}
 use mathlib.Core.List.{List}

@@ -7,34 +7,36 @@ ghost use mathlib.Core.Bool.{true, false, not};
 ghost use Prim.Native.Nat.{_+_, _-_, _*_, _/_, _%_, _<_, _≤_, min};
 ghost use lib.ListN.{length};
 ghost use Rattle.model.specs.Bounded.{firstBelow};
+ghost use Rattle.model.specs.Memory.{wordBits};
 ghost use Rattle.model.specs.Bitmaps.{bitAt, withBit};
 ghost use Rattle.bitmap.specs.Starts.{ElementRow};
 use units::ALL_BITS;
+use units::WORD_BITS;
 
 // Bit `i`.
 pub fn test(ws: &[u64], i: usize) -> bool
-    requires { ⌜ i / 64 < length (now ws) ⌝ }
+    requires { ⌜ i / wordBits < length (now ws) ⌝ }
     ensures { λ r. ⌜ r ≡ bitAt (now (ws .entry)) i ⌝ }
 {
-    (ws[i / 64] >> (i % 64)) % 2 == 1
+    (ws[i / WORD_BITS] >> (i % WORD_BITS)) % 2 == 1
 }
 
 // Bit `i` turned on.
 pub fn set(ws: &mut [u64], i: usize)
-    requires { ⌜ i / 64 < length (now ws) ⌝ }
+    requires { ⌜ i / wordBits < length (now ws) ⌝ }
     ensures { λ r. ⌜ now (ws .exit) ≡ withBit i true (now (ws .entry)) ⌝ }
 {
-    let at = i / 64;
-    ws[at] = ws[at] | (1u64 << (i % 64));
+    let at = i / WORD_BITS;
+    ws[at] = ws[at] | (1u64 << (i % WORD_BITS));
 }
 
 // Bit `i` turned off.
 pub fn clear(ws: &mut [u64], i: usize)
-    requires { ⌜ i / 64 < length (now ws) ⌝ }
+    requires { ⌜ i / wordBits < length (now ws) ⌝ }
     ensures { λ r. ⌜ now (ws .exit) ≡ withBit i false (now (ws .entry)) ⌝ }
 {
-    let at = i / 64;
-    ws[at] = ws[at] & !(1u64 << (i % 64));
+    let at = i / WORD_BITS;
+    ws[at] = ws[at] & !(1u64 << (i % WORD_BITS));
 }
 
 // The lower of two numbers.
@@ -44,30 +46,31 @@ fn lower(a: usize, b: usize) -> usize
     if a < b { a } else { b }
 }
 
-// How many words hold the bits below `end`.
-fn words_below(end: usize) -> usize
-    ensures { λ r. ⌜ r ≡ (end + 63) / 64 ⌝ }
+// How many words hold the bits below `end`. The sum of `end` and a word's bits may exceed 64 bits, so
+// it is not taken.
+pub fn words_below(end: usize) -> usize
+    ensures { λ r. ⌜ r ≡ (end + (wordBits - 1)) / wordBits ⌝ }
 {
-    if end % 64 == 0 {
-        end / 64
+    if end % WORD_BITS == 0 {
+        end / WORD_BITS
     } else {
-        end / 64 + 1
+        end / WORD_BITS + 1
     }
 }
 
 // The lowest set bit at or after `from` and below `to`, or `to`.
 pub fn first_set(ws: &[u64], from: usize, to: usize) -> usize
-    requires { ⌜ (from ≤ to) × (to ≤ 64 * length (now ws)) ⌝ }
+    requires { ⌜ (from ≤ to) × (to ≤ wordBits * length (now ws)) ⌝ }
     ensures { λ r. ⌜ r ≡ from + firstBelow (to - from) (λ k. bitAt (now (ws .entry)) (from + k)) ⌝ }
 {
     let end = words_below(to);
-    let mut at = from / 64;
+    let mut at = from / WORD_BITS;
     // the bits of the word from `from` on: all of them, in any word but the first
-    let mut mask = ALL_BITS << (from % 64);
+    let mut mask = ALL_BITS << (from % WORD_BITS);
     while at < end {
-        let found = u64::trailing_zeros(ws[at] & mask);
-        if found < 64 {
-            return lower(at * 64 + found as usize, to);
+        let found = u64::trailing_zeros(ws[at] & mask) as usize;
+        if found < WORD_BITS {
+            return lower(at * WORD_BITS + found, to);
         }
         at += 1;
         mask = ALL_BITS;
@@ -78,8 +81,8 @@ pub fn first_set(ws: &[u64], from: usize, to: usize) -> usize
 // Where the first element after a word starts, counted from the word's end, if the lowest start in
 // the word is its bit `off`. `rest` is what 64 bits leave over whole elements.
 pub fn next_start(size: usize, rest: usize, off: usize) -> usize
-    requires { ⌜ (off < size) × (rest ≡ 64 % size) ⌝ }
-    ensures { λ r. ⌜ (r < size) × ((r + 64) % size ≡ off) ⌝ }
+    requires { ⌜ (off < size) × (rest ≡ wordBits % size) ⌝ }
+    ensures { λ r. ⌜ (r < size) × ((r + wordBits) % size ≡ off) ⌝ }
 {
     if off < rest {
         off + (size - rest)
@@ -96,18 +99,18 @@ pub fn first_free(ws: &[u64], first: usize, size: usize, count: usize, starts: u
     ensures { λ r. ⌜ r ≡ firstBelow count (λ k. not (bitAt (now (ws .entry)) (first + k * size))) ⌝ }
 {
     let end = words_below(first + count * size);
-    let rest = 64 % size;
-    let mut at = first / 64;
+    let rest = WORD_BITS % size;
+    let mut at = first / WORD_BITS;
     // the lowest start in the word
     let mut off = 0;
     while at < end {
-        let free = u64::trailing_zeros(!ws[at] & (starts << off));
-        if free < 64 {
-            return lower((at * 64 + free as usize - first) / size, count);
+        let free = u64::trailing_zeros(!ws[at] & (starts << off)) as usize;
+        if free < WORD_BITS {
+            return lower((at * WORD_BITS + free - first) / size, count);
         }
         let next = next_start(size, rest, off);
-        at += 1 + next / 64;
-        off = next % 64;
+        at += 1 + next / WORD_BITS;
+        off = next % WORD_BITS;
     }
     count
 }

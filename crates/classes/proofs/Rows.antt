@@ -1,16 +1,17 @@
 -- The rows of the class table as facts, from one test that antt computes over all 66, and the elements of a span in words.
 use Prim.Native.Nat.{ℕ, _+_, _-_, _*_, _/_, _%_, _<_, _≤_}
 use mathlib.Core.Bool.{Bool, true, _&&_}
-use mathlib.Core.Path.{_≡_, refl, _∙_, ap}
+use mathlib.Core.Path.{_≡_, refl, sym, _∙_, ap}
 use native.Mathlib.Nat.{mul-div-mul-left}
 use native.Mathlib.Omega.{arith}
 use lib.Dec.{T}
 use borrow.Author.Tests.{ne-eqb}
 use Rattle.model.specs.Bounded.{_==_, _<?_, _≤?_, allBelow}
 use Rattle.model.specs.Memory.{pageBytes, pageWords, wordBytes}
-use Rattle.model.specs.Classes.{rows, classRows, elementBytes, spanBytes, maxSmall, elementsOf, classPages}
+use Rattle.model.specs.Classes.{rows, classRows, elementBytes, spanBytes, maxSmall, elementWordsOf, elementsOf, classPages}
 use Rattle.model.proofs.Tests.{is-true, and-iff, eqb-iff, ltb-iff, leb-iff}
 use Rattle.model.proofs.Bounded.{all-at}
+use Rattle.model.proofs.Classes.{small-words}
 
 -- what holds of the row of class c
 pub record Row (c : ℕ) : Type 0 where
@@ -37,7 +38,7 @@ row-facts c h l =
     record { some = f .0 .0 .0; small = f .0 .0 .1; words = f .0 .1; whole = f .1 }
 
 -- the elements of a span: the words of its pages by those of an element
-pub elements-by-words : (c : ℕ) → 0 < c → c ≤ rows → elementsOf c ≡ pageWords * classPages c / (elementBytes c / wordBytes)
+elements-by-words : (c : ℕ) → 0 < c → c ≤ rows → elementsOf c ≡ pageWords * classPages c / (elementBytes c / wordBytes)
 elements-by-words c h l =
     let r = row-facts c h l in
     let s : spanBytes c ≡ wordBytes * (pageWords * classPages c) = omega (arith, r .whole) in
@@ -47,3 +48,7 @@ elements-by-words c h l =
   where
     in-bytes : elementsOf c ≡ spanBytes c / elementBytes c
     in-bytes = unfold elementsOf in rw (ne-eqb c 0 (omega arith))
+
+-- what a row of w words and g pages says of a span's elements
+pub row-layout : (c n : ℕ) {w g : ℕ} → 0 < c → c ≤ rows → w ≡ elementBytes c / wordBytes → g ≡ classPages c → (w ≡ elementWordsOf c n) × (pageWords * g / w ≡ elementsOf c)
+row-layout c n h l e f = (e ∙ sym (small-words c n (λ z. omega arith)), rw (e, f) (sym (elements-by-words c h l)))

@@ -21,7 +21,7 @@ use Rattle.model.specs.Answers.{_orElse_}
 use Rattle.model.specs.Checks.{phaseRefusal, openRefusal}
 use Rattle.model.specs.Shading.{shadeCount}
 use Rattle.model.specs.Cycle.{start, scanStack, scanGlobals, markStep, finish, sweepStep, firstGray, firstUnswept, scan, scanRecord, finishRefusal, freedCount, nothingLeft}
-use Rattle.model.specs.Calls.{Start, ScanGlobals, MarkStep, Finish, SweepStep, ScanStack}
+use Rattle.model.specs.declared.Call.the-variants.{Start, ScanGlobals, MarkStep, Finish, SweepStep, ScanStack}
 use Rattle.model.specs.Facts.{IsSpan, Audited, References}
 use Rattle.model.specs.declared.Answer.the-variants.{Done, Value, Swept}
 use Rattle.model.proofs.Named.{reference-there}

@@ -22,7 +22,8 @@ use Rattle.model.specs.Answers.{_given_, _orElse_, unfinished}
 use Rattle.model.specs.Spans.{kindEntry, startsSpan, isUnswept}
 use Rattle.model.specs.Checks.{phaseRefusal, openRefusal}
 use Rattle.model.specs.Cycle.{sweptTable, start, scanStack, scanGlobals, markStep, finish, sweepStep, firstGray, firstUnswept, finishRefusal}
-use Rattle.model.specs.Calls.{Start, ScanGlobals, MarkStep, Finish, SweepStep, ScanStack, run, Request, step, sweepsIn, sweepsOf, after, audited}
+use Rattle.model.specs.Calls.{run, Request, step, sweepsIn, sweepsOf, after}
+use Rattle.model.specs.declared.Call.the-variants.{Start, ScanGlobals, MarkStep, Finish, SweepStep, ScanStack}
 use Rattle.model.proofs.Tests.{of-true, is-true}
 use Rattle.model.proofs.Bounded.{some-iff}
 use Rattle.model.proofs.Rules.{tests}

@@ -17,7 +17,7 @@ use Rattle.model.specs.Checks.{recordAt, openRefusal, closedRefusal, slotRefusa
 use Rattle.model.specs.Shading.{barrier}
 use Rattle.model.specs.Allocate.{allocate, newBits, newTable, newWord, allocateRefusal}
 use Rattle.model.specs.Records.{openStack, closeStack, copy, clear, load, store, put, get, loadGlobal, storeGlobal, emptied}
-use Rattle.model.specs.Calls.{Open, Close, Clear, Copy, Get, LoadGlobal, StoreGlobal, Allocate, Load, Store, Put}
+use Rattle.model.specs.declared.Call.the-variants.{Open, Close, Clear, Copy, Get, LoadGlobal, StoreGlobal, Allocate, Load, Store, Put}
 use Rattle.model.specs.declared.Answer.the-variants.{Done, Value}
 use Rattle.model.proofs.Classes.{takes}
 use Rattle.model.proofs.Bitmaps.{bit-inside}

@@ -17,7 +17,9 @@ use Rattle.model.specs.Memory.{Heap, goodBuffers}
 use Rattle.model.specs.Answers.{Outcome, outcome, refusal, _given_, _orElse_, badBuffers, damaged}
 use Rattle.model.specs.Checks.{buffersRefusal}
 use Rattle.model.specs.Records.{setup, fresh}
-use Rattle.model.specs.Calls.{Call, Setup, Audit, Start, ScanGlobals, MarkStep, Finish, SweepStep, Open, Close, ScanStack, Clear, Copy, Get, LoadGlobal, StoreGlobal, Allocate, Load, Store, Put, asksAudit, entry, does, run, Request, step, sweepsIn, sweepsOf}
+use Rattle.model.specs.Calls.{asksAudit, entry, does, run, Request, step, sweepsIn, sweepsOf}
+use Rattle.model.specs.declared.Call.{Call}
+use Rattle.model.specs.declared.Call.the-variants.{Setup, Audit, Start, ScanGlobals, MarkStep, Finish, SweepStep, Open, Close, ScanStack, Clear, Copy, Get, LoadGlobal, StoreGlobal, Allocate, Load, Store, Put}
 use Rattle.model.specs.Facts.{Audited, Sized}
 use Rattle.model.specs.declared.Answer.the-variants.{Refused}
 use Rattle.model.proofs.Tests.{is-true}

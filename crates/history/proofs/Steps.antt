@@ -14,7 +14,7 @@ use Rattle.marking.specs.Trace
 use Rattle.model.specs.Memory.{Heap, choose, setRoot, slot, global, state, phase, word, words, slotAt, stackCount, slotCount, globalCount, pageWords, closed, off, mark, sweep}
 use Rattle.model.specs.Spans.{spanOf, elementWords, pointerCount}
 use Rattle.model.specs.Answers.{outcome}
-use Rattle.model.specs.Calls.{Call}
+use Rattle.model.specs.declared.Call.{Call}
 use Rattle.model.specs.declared.Answer.{Answer}
 use Rattle.model.specs.declared.Answer.the-variants.{Refused, Value}
 use Rattle.model.proofs.Tests.{of-true}

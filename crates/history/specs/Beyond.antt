@@ -16,7 +16,8 @@ use Rattle.marking.specs.Survivors.{Saved}
 use Rattle.model.specs.Bounded.{countBelow}
 use Rattle.model.specs.Memory.{Heap, words, phase, wordOf, stackCount, off, mark, sweep}
 use Rattle.model.specs.Bitmaps.{is, allocated, marked}
-use Rattle.model.specs.Calls.{Start, ScanGlobals, MarkStep, Finish, SweepStep, ScanStack, Request, step, after}
+use Rattle.model.specs.Calls.{Request, step, after}
+use Rattle.model.specs.declared.Call.the-variants.{Start, ScanGlobals, MarkStep, Finish, SweepStep, ScanStack}
 use Rattle.model.specs.Answers.{refusal, accepted, damaged}
 use Rattle.history.specs.Ledger.{onPages}
 use Rattle.history.specs.Demand.{setupOf, Stage, stages, eventsOf, endOf, fed, eventOn, Place, answerAt, freesIn, Interval, Cycle, Demand}

@@ -22,7 +22,8 @@ use Rattle.marking.specs.Ledger.{Ledger, Event, effect, Each, empty, feed, feed
 use Rattle.model.specs.Memory.{Heap, word, slot, global, state, wordOf, addressOf, stackCount, slotCount, globalCount, closed}
 use Rattle.model.specs.Bitmaps.{is, allocated}
 use Rattle.model.specs.Spans.{owner, pageCount, kindEntry}
-use Rattle.model.specs.Calls.{Setup, Request, step, sweepsOf, after}
+use Rattle.model.specs.Calls.{Request, step, sweepsOf, after}
+use Rattle.model.specs.declared.Call.the-variants.{Setup}
 use Rattle.model.specs.declared.Answer.{Answer}
 use Rattle.model.specs.declared.Answer.the-variants.{Value}
 use Rattle.history.specs.Ledger.{event, onPages}

@@ -11,7 +11,8 @@ use Rattle.marking.specs.Event
 use Rattle.model.specs.Memory.{Heap, lent}
 use Rattle.model.specs.Answers.{numbers, accepted}
 use Rattle.model.specs.Classes.{classOf, pagesFor, elementWordsOf}
-use Rattle.model.specs.Calls.{Call, Setup, Audit, Start, ScanGlobals, MarkStep, Finish, SweepStep, Open, Close, ScanStack, Clear, Copy, Get, LoadGlobal, StoreGlobal, Allocate, Load, Store, Put}
+use Rattle.model.specs.declared.Call.{Call}
+use Rattle.model.specs.declared.Call.the-variants.{Setup, Audit, Start, ScanGlobals, MarkStep, Finish, SweepStep, Open, Close, ScanStack, Clear, Copy, Get, LoadGlobal, StoreGlobal, Allocate, Load, Store, Put}
 use Rattle.model.specs.declared.Answer.{Answer}
 
 -- the first value of an answer, and whether its values are 0, 0, 0

@@ -20,7 +20,9 @@ use Rattle.model.specs.Shading.{barrier, shadeCount}
 use Rattle.model.specs.Allocate.{allocate, newBits, newTable, newWord, allocateRefusal}
 use Rattle.model.specs.Records.{setup, fresh, openStack, closeStack, emptied, copy, clear, load, store, put, get, loadGlobal, storeGlobal}
 use Rattle.model.specs.Cycle.{start, scan, scanStack, scanGlobals, markStep, finish, sweepStep, firstGray, firstUnswept, scanRecord, finishRefusal, freedCount, nothingLeft}
-use Rattle.model.specs.Calls.{Call, Setup, Audit, Start, ScanGlobals, MarkStep, Finish, SweepStep, Open, Close, ScanStack, Clear, Copy, Get, LoadGlobal, StoreGlobal, Allocate, Load, Store, Put, entry, entryRefusal, asksAudit, does, run}
+use Rattle.model.specs.Calls.{entry, entryRefusal, asksAudit, does, run}
+use Rattle.model.specs.declared.Call.{Call}
+use Rattle.model.specs.declared.Call.the-variants.{Setup, Audit, Start, ScanGlobals, MarkStep, Finish, SweepStep, Open, Close, ScanStack, Clear, Copy, Get, LoadGlobal, StoreGlobal, Allocate, Load, Store, Put}
 use Rattle.model.specs.Facts.{Audited, IsSpan, References}
 use Rattle.model.specs.declared.Answer.{Answer}
 use Rattle.model.specs.declared.Answer.the-variants.{Refused, Done, Value, Swept}

@@ -12,7 +12,7 @@ use Rattle.model.specs.Memory.{Heap, goodBuffers, words, state, phase, s
 use Rattle.model.specs.Answers.{_given_, _orElse_, badBuffers, damaged, sweepFirst, noRoom}
 use Rattle.model.specs.Bitmaps.{is, gray}
 use Rattle.model.specs.Spans.{elementWords, spanOf, pointerCount}
-use Rattle.model.specs.Checks.{slotRefusal, slotsRefusal, globalRefusal, pointerRefusal, numberRefusal, recordAt, openRefusal}
+use Rattle.model.specs.Checks.{buffersRefusal, slotRefusal, slotsRefusal, globalRefusal, pointerRefusal, numberRefusal, recordAt, openRefusal}
 use Rattle.model.specs.Audit.{audit}
 use Rattle.model.specs.Allocate.{roomFor, roomRefusal, allocateRefusal, someUnswept}
 use Rattle.model.specs.Classes.{kindOf, pagesFor, maxSize}
@@ -135,6 +135,9 @@ finish-passed h e = let x = simp passes at e in
     record { phase = x .0; stacks = x .1 .0 .0; globals = x .1 .0 .1; records = none-gray h (x .1 .1) }
 
 -- the entry: buffers and audit
+pub lengths-passed : (h : Heap) → buffersRefusal h ≡ 0 → Sized h
+lengths-passed h e = sized h (simp (given-iff, not-not-iff) at e)
+
 pub entry-passed : (h : Heap) → entry h ≡ 0 → Audited h
 unfolding entry
 entry-passed h e = let x = simp (given-iff, orElse-iff, not-not-iff) at e in audit-facts h (sized h (x .0)) (x .1)

@@ -9,9 +9,10 @@ use lib.Dec.{eqb}
 use borrow.Author.Tests.{ne-eqb}
 use Rattle.model.specs.Memory.{Heap, lent}
 use Rattle.model.specs.Answers.{_orElse_, Outcome, outcome, Meets}
-use Rattle.model.specs.Calls.{entry, audited}
+use Rattle.model.specs.Calls.{does, entryRefusal, run}
 use Rattle.model.specs.declared.Answer.{Answer}
 use Rattle.model.specs.declared.Answer.the-variants.{Refused}
+use Rattle.model.specs.declared.Call.{Call}
 
 -- refusals in a row: which two are taken together makes no difference
 pub orElse-assoc : (a b c : ℕ) → ((a orElse b) orElse c) ≡ (a orElse (b orElse c))
@@ -35,10 +36,10 @@ refused m h x d {n} e f = rw (← e, ne-eqb n 0 f) (record { answer = refl; list
 pub not-refused : (m : ℕ) (h : Heap) (x : Answer) (d : Heap) → m ≡ 0 → Meets (outcome m h x d) x (d .arena) (d .table) (d .bits) (d .roots)
 not-refused m h x d e = rw e (record { answer = refl; listed = refl; arena = refl; table = refl; bits = refl; roots = refl })
 
--- after an entry check that gives 0, what meets the audited call meets the public call
-pub entered : (h : Heap) {o : Outcome} {r : Answer} {a t b s : List ℕ} → entry h ≡ 0 → Meets o r a t b s → Meets (audited h o) r a t b s
-entered h e m = rw e m
+-- after an entry that gives 0, what meets the audited call meets the public call
+pub entered : (h : Heap) (c : Call) {r : Answer} {a t b s : List ℕ} → entryRefusal h c ≡ 0 → Meets (does h c) r a t b s → Meets (run h c) r a t b s
+entered h c e m = rw e m
 
 -- after any other, its number is the answer
-pub not-entered : (h : Heap) (o : Outcome) {n : ℕ} → n ≡ entry h → n ≢ 0 → Meets (audited h o) (Refused n) (h .arena) (h .table) (h .bits) (h .roots)
-not-entered h o e f = refused (entry h) h (o .answer) (o .heap) e f
+pub not-entered : (h : Heap) (c : Call) {n : ℕ} → n ≡ entryRefusal h c → n ≢ 0 → Meets (run h c) (Refused n) (h .arena) (h .table) (h .bits) (h .roots)
+not-entered h c e f = refused (entryRefusal h c) h (does h c .answer) (does h c .heap) e f

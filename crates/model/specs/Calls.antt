@@ -12,14 +12,8 @@ use Rattle.model.specs.Records.{setup, openStack, closeStack, copy, clea
 use Rattle.model.specs.Cycle.{start, scanStack, scanGlobals, markStep, finish, sweepStep}
 use Rattle.model.specs.declared.Answer.{Answer}
 use Rattle.model.specs.declared.Answer.the-variants.{Done}
-
--- what is asked, with the call's numbers in the order of the trace line
-pub data Call : Type 0 where
-  Setup Audit Start ScanGlobals MarkStep Finish SweepStep : Call
-  Open Close ScanStack : ℕ → Call
-  Clear : ℕ → ℕ → Call
-  Copy Get LoadGlobal StoreGlobal : ℕ → ℕ → ℕ → Call
-  Allocate Load Store Put : ℕ → ℕ → ℕ → ℕ → Call
+use Rattle.model.specs.declared.Call.{Call}
+use Rattle.model.specs.declared.Call.the-variants.{Setup, Audit, Open, Close, Allocate, Copy, Clear, Load, Store, Put, Get, LoadGlobal, StoreGlobal, Start, ScanStack, ScanGlobals, MarkStep, Finish, SweepStep}
 
 -- "Every call after setup asks the audit first."; "(not asked by setup)"
 abbrev pub asksAudit : Call → Bool
@@ -73,10 +67,6 @@ does h ScanGlobals = scanGlobals h
 does h MarkStep = markStep h
 does h Finish = finish h
 does h SweepStep = sweepStep h
-
--- an outcome after the entry of a call that asks the audit
-abbrev pub audited : Heap → Outcome → Outcome
-audited h o = outcome (entry h) h (o .answer) (o .heap)
 
 -- a call on the heap that it is lent: its entry, then what it does
 abbrev pub run : Heap → Call → Outcome

@@ -1,14 +1,11 @@
--- What is lent to a function that is not lent a whole heap. First what several functions require of the buffers that they are lent, each
--- requirement under one name; then contracts that hold whatever the buffers are that are not lent.
+-- What several functions require of the contents of the buffers that they are lent, where it is not a whole heap: each requirement under one name.
 use Prim.Native.Nat.{ℕ, _+_, _*_, _<_, _≤_}
 use mathlib.Core.List.{List}
 use mathlib.Core.Path.{_≡_}
 use lib.ListN.{length, getD}
-use Rattle.model.specs.Memory.{Heap, lent, maxPages, entryNumbers, kindOffset, unsweptFlag, bitmapWords, rootWords, firstState, pageOf}
-use Rattle.model.specs.Answers.{Outcome, Meets}
+use Rattle.model.specs.Memory.{maxPages, entryNumbers, kindOffset, unsweptFlag, bitmapWords, rootWords, firstState, pageOf}
 use Rattle.model.specs.Spans.{kindEntry, spanOf}
-use Rattle.model.specs.Facts.{Spans, IsSpan, Bits, Reference, Audited}
-use Rattle.model.specs.declared.Answer.{Answer}
+use Rattle.model.specs.Facts.{Spans, IsSpan, Bits, Reference}
 
 -- the roots, by their length
 abbrev pub Roots : List ℕ → Type 0
@@ -68,25 +65,3 @@ AllSwept t = (s : ℕ) → IsSpan t s → kindEntry t s < unsweptFlag
 -- every slot and every global is nil or the address of a kept element
 abbrev pub RootReferences : ℕ → List ℕ → List ℕ → List ℕ → Type 0
 RootReferences p t b r = (i : ℕ) → i < firstState → Reference p t b (getD r i 0)
-
--- some arena makes the other three buffers a heap that the audit passes
-abbrev pub AuditedWithoutArena : ℕ → List ℕ → List ℕ → List ℕ → Type 0
-AuditedWithoutArena p t b r = (a : List ℕ) × Audited (lent p a t b r)
-
--- Contracts of what is not lent the arena, for every arena: the number that a function of the heap gives, and a call's outcome.
-abbrev pub NumberWithoutArena : (Heap → ℕ) → ℕ → List ℕ → List ℕ → List ℕ → ℕ → Type 0
-NumberWithoutArena f p t b r n = (a : List ℕ) → n ≡ f (lent p a t b r)
-
-abbrev pub MeetsWithoutArena : (Heap → Outcome) → ℕ → List ℕ → List ℕ → List ℕ → Answer → List ℕ → List ℕ → List ℕ → Type 0
-MeetsWithoutArena call p t b r x t' b' r' = (a : List ℕ) → Meets (call (lent p a t b r)) x a t' b' r'
-
--- Contracts of what is lent the roots alone, for every P and every content of the other three buffers: the number that a function of the heap
--- gives, the roots that a change of the heap leaves, and a call's outcome.
-abbrev pub NumberByRoots : (Heap → ℕ) → List ℕ → ℕ → Type 0
-NumberByRoots f r n = (p : ℕ) (a t b : List ℕ) → n ≡ f (lent p a t b r)
-
-abbrev pub LeavesRoots : (Heap → Heap) → List ℕ → List ℕ → Type 0
-LeavesRoots change before after = (p : ℕ) (a t b : List ℕ) → after ≡ change (lent p a t b before) .roots
-
-abbrev pub MeetsByRoots : (Heap → Outcome) → Answer → List ℕ → List ℕ → Type 0
-MeetsByRoots call x before after = (p : ℕ) (a t b : List ℕ) → Meets (call (lent p a t b before)) x a t b after

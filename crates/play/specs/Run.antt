@@ -5,8 +5,8 @@ use mathlib.Core.Path.{_≡_}
 use lib.ListN.{length}
 use Rattle.model.specs.Memory.{pageWords, bitmapWords}
 use Rattle.model.specs.Lent.{Roots, PageTable}
-use Rattle.lines.specs.Lines.{longestLine}
-use Rattle.trace.specs.Play.{mostPages}
+use Rattle.trace_read.specs.Lines.{longestLine}
+use Rattle.trace_line.specs.Play.{mostPages}
 use Rattle.play.specs.declared.Progress.{Progress}
 
 -- a large buffer of library io, as a block of input and what waits to be written have

@@ -1,21 +1,21 @@
-// Plays a trace: standard input in blocks, the work of each line by the library `trace`, standard
+// Plays a trace: standard input in blocks, the work of each line by the library `trace_line`, standard
 // output in blocks. Memory is fixed: a line that is too long ends the run as soon as that shows.
 ghost use mathlib.Core.Path.{_≡_};
 ghost use Prim.Native.Nat.{_+_, _≤_};
 ghost use lib.ListN.{length};
-ghost use Rattle.lines.specs.Lines.{longestLine};
-ghost use Rattle.line_buffer.specs.Split.{Short};
-ghost use Rattle.answers.specs.Text.{longestAnswer};
-ghost use Rattle.trace.specs.Play.{mostPages};
+ghost use Rattle.trace_read.specs.Lines.{longestLine};
+ghost use Rattle.trace_split.specs.Split.{Short};
+ghost use Rattle.trace_write.specs.Text.{longestAnswer};
+ghost use Rattle.trace_line.specs.Play.{mostPages};
 ghost use Rattle.play.specs.Run.{blockBytes, ProgramMemory, InRange};
-use line_buffer::Taken;
+use trace_split::Taken;
 
 const STDIN: i32 = 0;
 
 const STDOUT: i32 = 1;
 
 // The memory of the most pages that a trace may ask for.
-const PAGES: usize = trace::MOST_PAGES as usize;
+const PAGES: usize = trace_line::MOST_PAGES as usize;
 
 const ARENA_WORDS: usize = units::PAGE_WORDS * PAGES;
 
@@ -47,12 +47,12 @@ fn play_first(
     requires { ⌜ at + longestAnswer ≤ blockBytes ⌝ }
     ensures { λ r. ⌜ InRange r ⌝ }
 {
-    let p = trace::pages(line);
+    let p = trace_line::pages(line);
     let n = p as usize;
     let words = units::PAGE_WORDS * n;
     let entries = units::ENTRY_NUMBERS * n;
     let marks = units::BITMAP_WORDS * n;
-    let step = trace::first_line(
+    let step = trace_line::first_line(
         &mut arena[..words],
         &mut table[..entries],
         &mut bits[..marks],
@@ -90,7 +90,7 @@ fn play_later(
     let words = units::PAGE_WORDS * n;
     let entries = units::ENTRY_NUMBERS * n;
     let marks = units::BITMAP_WORDS * n;
-    let step = trace::later_line(
+    let step = trace_line::later_line(
         p,
         &mut arena[..words],
         &mut table[..entries],
@@ -115,7 +115,7 @@ fn room(out: &[u8], at: usize) -> usize
     requires { ⌜ (at ≤ blockBytes) × (length (now out) ≡ blockBytes) ⌝ }
     ensures { λ r. ⌜ r + longestAnswer ≤ blockBytes ⌝ }
 {
-    if at + answers::LONGEST <= out.len() {
+    if at + trace_write::LONGEST <= out.len() {
         return at;
     }
     io::write_all(STDOUT, &out[..at]);
@@ -180,7 +180,7 @@ fn left_over(run: Progress, taken: Taken) -> Progress
     match taken {
         Taken::Line(_, _) => run,
         Taken::Part(n) => paused(run, n, true),
-        Taken::TooLong => paused(run, lines::LONGEST, false),
+        Taken::TooLong => paused(run, trace_read::LONGEST, false),
     }
 }
 
@@ -203,7 +203,7 @@ fn feed(
     let mut used = from.used;
     let mut i = 0;
     while run.more {
-        let taken = line_buffer::take(line, used, block, i);
+        let taken = trace_split::take(line, used, block, i);
         let Taken::Line(n, next) = taken else {
             return left_over(run, taken);
         };
@@ -241,7 +241,7 @@ fn end(out: &mut [u8], run: Progress)
         return;
     }
     let number = std::num::wrapping_add_u64(run.lines, 1);
-    let n = answers::write_bad(out, 0, number);
+    let n = trace_write::write_bad(out, 0, number);
     io::write_all(STDOUT, &out[..n]);
 }
 
@@ -250,7 +250,7 @@ fn main() {
     let mut table = [0u32; TABLE_NUMBERS];
     let mut bits = [0u64; BITMAP_WORDS];
     let mut roots = [0u64; units::ROOT_WORDS];
-    let mut line = [0u8; lines::LONGEST];
+    let mut line = [0u8; trace_read::LONGEST];
     let mut block = io::large_buffer();
     let mut out = io::large_buffer();
     let mut run = begun();

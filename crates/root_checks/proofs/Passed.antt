@@ -5,7 +5,6 @@ use mathlib.Core.Path.{_≡_, sym, _∙_}
 use Rattle.model.specs.Memory.{Heap, lent, stackCount, slotCount, globalCount}
 use Rattle.model.specs.Answers.{_orElse_}
 use Rattle.model.specs.Checks.{openRefusal, closedRefusal, slotNumberRefusal, globalNumberRefusal, slotRefusal, slotsRefusal, globalRefusal}
-use Rattle.model.specs.Lent.{NumberByRoots}
 use Rattle.model.proofs.Outcomes.{orElse-assoc}
 use Rattle.model.proofs.Checks.{passes, open-passed, slot-passed, slots-passed, global-passed}
 
@@ -21,17 +20,21 @@ global-chain h s i g = sym (orElse-assoc (openRefusal h s) (slotNumberRefusal i)
 abbrev with : List ℕ → Heap
 with r = lent 0 [] [] [] r
 
-pub open-bounds : (r : List ℕ) (s : ℕ) {n : ℕ} → NumberByRoots (λ h. openRefusal h s) r n → n ≡ 0 → s < stackCount
+-- the number that a function of the heap gives by the roots alone, as the checks promise it
+abbrev pub ByRoots : (Heap → ℕ) → List ℕ → ℕ → Type 0
+ByRoots f r n = (p : ℕ) (a t b : List ℕ) → n ≡ f (lent p a t b r)
+
+pub open-bounds : (r : List ℕ) (s : ℕ) {n : ℕ} → ByRoots (λ h. openRefusal h s) r n → n ≡ 0 → s < stackCount
 open-bounds r s f e = open-passed (with r) s (sym (f 0 [] [] []) ∙ e) .below
 
-pub closed-bounds : (r : List ℕ) (s : ℕ) {n : ℕ} → NumberByRoots (λ h. closedRefusal h s) r n → n ≡ 0 → s < stackCount
+pub closed-bounds : (r : List ℕ) (s : ℕ) {n : ℕ} → ByRoots (λ h. closedRefusal h s) r n → n ≡ 0 → s < stackCount
 closed-bounds r s f e = let x = simp passes at (sym (f 0 [] [] []) ∙ e) in x .0
 
-pub slot-bounds : (r : List ℕ) (s i : ℕ) {n : ℕ} → NumberByRoots (λ h. slotRefusal h s i) r n → n ≡ 0 → (s < stackCount) × (i < slotCount)
+pub slot-bounds : (r : List ℕ) (s i : ℕ) {n : ℕ} → ByRoots (λ h. slotRefusal h s i) r n → n ≡ 0 → (s < stackCount) × (i < slotCount)
 slot-bounds r s i f e = let x = slot-passed (with r) s i (sym (f 0 [] [] []) ∙ e) in (x .0 .below, x .1)
 
-pub slots-bounds : (r : List ℕ) (s i j : ℕ) {n : ℕ} → NumberByRoots (λ h. slotsRefusal h s i j) r n → n ≡ 0 → (s < stackCount) × (i < slotCount) × (j < slotCount)
+pub slots-bounds : (r : List ℕ) (s i j : ℕ) {n : ℕ} → ByRoots (λ h. slotsRefusal h s i j) r n → n ≡ 0 → (s < stackCount) × (i < slotCount) × (j < slotCount)
 slots-bounds r s i j f e = let x = slots-passed (with r) s i j (sym (f 0 [] [] []) ∙ e) in (x .0 .below, x .1, x .2)
 
-pub global-bounds : (r : List ℕ) (s i g : ℕ) {n : ℕ} → NumberByRoots (λ h. globalRefusal h s i g) r n → n ≡ 0 → (s < stackCount) × (i < slotCount) × (g < globalCount)
+pub global-bounds : (r : List ℕ) (s i g : ℕ) {n : ℕ} → ByRoots (λ h. globalRefusal h s i g) r n → n ≡ 0 → (s < stackCount) × (i < slotCount) × (g < globalCount)
 global-bounds r s i g f e = let x = global-passed (with r) s i g (sym (f 0 [] [] []) ∙ e) in (x .0 .below, x .1, x .2)

@@ -9,7 +9,7 @@ use native.Mathlib.Omega.{arith}
 use lib.Dec.{eqb}
 use lib.ListN.{getD}
 use borrow.Author.Tests.{eq-eqb, ne-eqb, lt-ltb}
-use Rattle.model.specs.Memory.{wordOf, lent, phaseAt, mark, pageWords}
+use Rattle.model.specs.Memory.{wordOf, lent, phaseAt, mark, pageWords, nil}
 use Rattle.model.specs.Bitmaps.{bitAt, withBit, bitIn, putBit, marked}
 use Rattle.model.specs.Spans.{isScan, spanOf}
 use Rattle.model.specs.Shading.{isWhite, shade, shadeAll, shadeCount, barrier}
@@ -22,26 +22,31 @@ black : (p : ℕ) (t : List ℕ) (v : ℕ) (b : List ℕ) → isWhite p t v b �
 unfolding shade
 black p t v b e = record { count = rw e; bits = rw e }
 
-pub nil-shades : (p : ℕ) (t : List ℕ) (v : ℕ) (b : List ℕ) → v ≡ 0 → Shades p t v b 0 b
-nil-shades p t v b e = black p t v b (rw (eq-eqb v 0 e))
+pub nil-shades : (p : ℕ) (t : List ℕ) (v : ℕ) (b : List ℕ) → v ≡ nil → Shades p t v b 0 b
+nil-shades p t v b e = black p t v b (rw (eq-eqb v nil e))
 
+-- a value that names the record at word w; the code counts the parts before the marked one, which is one
 module _ (p : ℕ) (t : List ℕ) (v : ℕ) (b : List ℕ) (named : NamesRecord p t v) {w : ℕ} (e : w ≡ wordOf v) where
-  white-is : (m : Bool) → bitAt b (pageWords * p + w) ≡ m → bitIn (pageWords * p) marked b (wordOf v) ≡ m
+  one-part : 1 * (pageWords * p) + w ≡ pageWords * p + w
+  one-part = omega arith
+
+  white-is : (m : Bool) → bitAt b (1 * (pageWords * p) + w) ≡ m → bitIn (pageWords * p) marked b (wordOf v) ≡ m
   unfolding bitIn
-  white-is m x = rw (← e) (rw (lt-ltb w (pageWords * p) (omega (arith, named .word))) x)
+  white-is m x = rw (← e) (rw (lt-ltb w (pageWords * p) (omega (arith, named .word))) (rw one-part at x))
 
-  pub marked-shades : bitAt b (pageWords * p + w) ≡ true → Shades p t v b 0 b
-  marked-shades x = black p t v b (rw (white-is true x) (and-false (not (eqb v 0))))
+  pub marked-shades : bitAt b (1 * (pageWords * p) + w) ≡ true → Shades p t v b 0 b
+  marked-shades x = black p t v b (rw (white-is true x) (and-false (not (eqb v nil))))
 
-  -- a white record in a noscan span
-  pub noscan-shades : v ≢ 0 → bitAt b (pageWords * p + w) ≡ false → isScan t (spanOf t w) ≡ false → {b' : List ℕ} → b' ≡ withBit (pageWords * p + w) true b → Shades p t v b 1 b'
-  unfolding shade putBit
-  noscan-shades d x s f = record { count = rw (ne-eqb v 0 d, white-is false x); bits = rw (ne-eqb v 0 d, white-is false x, ← e, s, f) }
+  module _ (d : v ≢ nil) (x : bitAt b (1 * (pageWords * p) + w) ≡ false) where
+    -- a white record in a noscan span
+    pub noscan-shades : isScan t (spanOf t w) ≡ false → {b' : List ℕ} → b' ≡ withBit (1 * (pageWords * p) + w) true b → Shades p t v b 1 b'
+    unfolding shade putBit
+    noscan-shades s f = record { count = rw (ne-eqb v nil d, white-is false x); bits = rw (ne-eqb v nil d, white-is false x, ← e, s, f, one-part) }
 
-  -- .. in a scan span
-  pub scan-shades : v ≢ 0 → bitAt b (pageWords * p + w) ≡ false → isScan t (spanOf t w) ≡ true → {b' b'' : List ℕ} → b' ≡ withBit (pageWords * p + w) true b → b'' ≡ withBit (2 * (pageWords * p) + w) true b' → Shades p t v b 1 b''
-  unfolding shade putBit
-  scan-shades d x s f g = record { count = rw (ne-eqb v 0 d, white-is false x); bits = rw (ne-eqb v 0 d, white-is false x, ← e, s, g, f) }
+    -- .. in a scan span
+    pub scan-shades : isScan t (spanOf t w) ≡ true → {b' b'' : List ℕ} → b' ≡ withBit (1 * (pageWords * p) + w) true b → b'' ≡ withBit (2 * (pageWords * p) + w) true b' → Shades p t v b 1 b''
+    unfolding shade putBit
+    scan-shades s f g = record { count = rw (ne-eqb v nil d, white-is false x); bits = rw (ne-eqb v nil d, white-is false x, ← e, s, g, f, one-part) }
 
 -- the barrier outside the mark phase, and in it
 pub no-barrier : (p : ℕ) (a t b r : List ℕ) (old new : ℕ) → getD r phaseAt 0 ≢ mark → b ≡ barrier (lent p a t b r) old new

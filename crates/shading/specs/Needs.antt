@@ -4,11 +4,13 @@ use mathlib.Core.Bool.{cond}
 use mathlib.Core.List.{List}
 use mathlib.Core.Logic.{_≢_}
 use mathlib.Core.Path.{_≡_}
+use denote.Ref.{now}
 use lib.ListN.{length, getD}
-use Rattle.model.specs.Memory.{pageWords, nil}
+use Rattle.model.specs.Memory.{Heap, pageWords, nil}
 use Rattle.model.specs.Spans.{spanOf, recordOf}
 use Rattle.model.specs.Shading.{isWhite, shade, shadeAll, shadeCount}
 use Rattle.model.specs.Lent.{Roots, Tables}
+use Rattle.model.specs.Contracts.{Borrowed, Buffer, foundWith}
 
 -- the record that a value names lies in the arena, and its span starts there
 pub record NamesRecord (p : ℕ) (t : List ℕ) (v : ℕ) : Type 0 where
@@ -42,3 +44,18 @@ pub record Shades (p : ℕ) (t : List ℕ) (v : ℕ) (b : List ℕ) (r : ℕ) (a
 pub record ShadesAll (p : ℕ) (t : List ℕ) (n : ℕ) (value : ℕ → ℕ) (b : List ℕ) (r : ℕ) (after : List ℕ) : Type 0 where
   pub count : r ≡ shadeCount p t n value b
   pub bits : after ≡ shadeAll p t n value b
+
+-- Contracts over what is lent: a store's values and a slice's, as what is required ..
+abbrev pub LentStore : ℕ → Borrowed → Borrowed → Borrowed → ℕ → ℕ → Type 0
+LentStore p table bits roots old new = Stored p (now table) (now bits) (now roots) old new
+
+abbrev pub LentSlice : ℕ → Borrowed → Borrowed → Borrowed → ℕ → ℕ → Type 0
+LentSlice p table bits words from n = ShadableSlice p (now table) (now bits) (now words) from n
+
+-- .. and what is promised: the bitmaps that a function of the heap gives, for every arena; the slice's n values shaded
+abbrev pub LeavesBits : (Heap → List ℕ) → ℕ → Buffer → Buffer → Buffer → Type 0
+LeavesBits f p table bits roots = (a : List ℕ) → now (bits .exit) ≡ f (foundWith a p table bits roots)
+
+abbrev pub ShadesSlice : ℕ → Buffer → Buffer → Buffer → ℕ → ℕ → ℕ → Type 0
+ShadesSlice p table bits words from n r =
+    ShadesAll p (now (table .entry)) n (λ i. getD (now (words .entry)) (from + i) 0) (now (bits .entry)) r (now (bits .exit))

@@ -1,6 +1,6 @@
 // Addresses, page numbers and word numbers as types of their own, so that one cannot be given for
-// another, with the conversions between them; and the limits and offsets of lent memory, each once,
-// under the names of the model's specs/Memory.antt, Spans.antt and Answers.antt. What counts or
+// another, with the conversions between them; and the limits and offsets of lent memory, each once, as
+// the model has them in specs/Memory.antt and the refusals in specs/Answers.antt. What counts or
 // indexes is a usize; what is compared with the words of a buffer or with a size in bytes is a u64,
 // with the numbers of the page table a u32.
 ghost use mathlib.Core.Path.{_≡_};
@@ -25,6 +25,13 @@ pub const WORD_BITS: usize = 64;
 
 // The bitmap words of a page in each part. Each has the bits of 64 arena words, a block.
 pub const PAGE_BLOCKS: usize = 16;
+
+// The parts of the bitmaps, each by how many stand before it. The allocated one is the first.
+pub const MARKED_PART: usize = 1;
+
+pub const GRAY_PART: usize = 2;
+
+pub const POINTER_PART: usize = 3;
 
 // A word with every bit set.
 pub const ALL_BITS: u64 = 0xFFFF_FFFF_FFFF_FFFF;
@@ -66,7 +73,7 @@ pub const UNSWEPT_FLAG: u32 = 256;
 // Addresses.
 pub const NIL: u64 = 0;
 
-pub const FIRST_ADDRESS: u64 = 8192;
+const FIRST_ADDRESS: u64 = 8192;
 
 // The refusals, in the order in which they are tested.
 pub const BAD_BUFFERS: u64 = 1;
@@ -90,8 +97,6 @@ pub const SWEEP_FIRST: u64 = 8;
 pub const NO_ROOM: u64 = 9;
 
 pub const UNFINISHED: u64 = 10;
-
-pub const BAD_LINE: u64 = 11;
 
 // The address of an arena word, or any number that stands where one may.
 pub struct Address(pub u64);

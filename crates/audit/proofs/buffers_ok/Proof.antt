@@ -10,20 +10,11 @@ returns c = (λ t. absurd t, λ Z. omega (arith, Z .low))
 returns-2 : tie.Need-returns-2
 returns-2 c = (λ t. absurd t, λ Z. omega (arith, Z .high))
 
-mul-if3 : tie.Need-mul-if3
-mul-if3 c = search needs
-
 returns-3 : tie.Need-returns-3
 returns-3 c = (λ t. absurd t, λ Z. omega (arith, Z .arena))
 
-mul-if4 : tie.Need-mul-if4
-mul-if4 c = search needs
-
 returns-4 : tie.Need-returns-4
 returns-4 c = (λ t. absurd t, λ Z. omega (arith, Z .table))
-
-mul-if5 : tie.Need-mul-if5
-mul-if5 c = search needs
 
 returns-5 : tie.Need-returns-5
 returns-5 c = (λ t. absurd t, λ Z. omega (arith, Z .bits))
@@ -34,4 +25,4 @@ returns-6 c = last-length _ (omega arith) (omega arith) (omega arith) (omega ari
 pub buffers-ok-spec : {M : Type 1} → statement M
 buffers-ok-spec =
     tie.close
-    (tie.spec returns returns-2 mul-if3 returns-3 mul-if4 returns-4 mul-if5 returns-5 returns-6)
+    (tie.spec returns returns-2 (λ c. search needs) returns-3 (λ c. search needs) returns-4 (λ c. search needs) returns-5 returns-6)

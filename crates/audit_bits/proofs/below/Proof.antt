@@ -7,9 +7,6 @@ use Rattle.audit_bits.proofs.Masks.{on-below, on-all}
 use Rattle.audit_bits.proofs.below.Statement.{statement}
 use Rattle.audit_bits.proofs.below.Tie as tie
 
-shl-result : tie.Need-shl-result
-shl-result c = search needs
-
 returns : tie.Need-returns
 returns c = on-below (c .before .args .left)
 
@@ -17,4 +14,4 @@ returns-2 : tie.Need-returns-2
 returns-2 c = λ j l. on-all j l ∙ sym (lt-ltb j (c .before .args .left) (omega arith))
 
 pub below-spec : {M : Type 1} → statement M
-below-spec = tie.close (tie.spec shl-result returns returns-2)
+below-spec = tie.close (tie.spec (λ c. search needs) returns returns-2)

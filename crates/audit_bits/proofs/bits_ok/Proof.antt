@@ -1,70 +1,66 @@
--- The invariant: g is the beginning of a span or of a free page, or the end, and the words before it have the bits that the audit allows.
-use Prim.Native.Nat.{_-_, _*_, _≤_}
+-- The invariant: g is the beginning of a span or of a free page, or the end; the words before it have the bits that the audit allows, and each span
+-- before it has an allocated word.
+use Prim.Native.Nat.{ℕ, _-_, _*_, _<_, _≤_}
 use native.Mathlib.Omega.{arith}
 use mathlib.Core.Path.{_≡_}
-use borrow.Author.Tests.{not-true, not-false}
 use Rattle.model.specs.Memory.{pageWords}
-use Rattle.model.proofs.Tests.{is-true}
-use Rattle.audit_bits.specs.Needs.{Begins}
-use Rattle.audit_bits.specs.Words.{GoodWords}
-use Rattle.audit_bits.proofs.Stretches.{Edge, NextStretch, edge-first, edge-begins, next, good-more, words-facts, facts-words}
+use Rattle.audit_pages.proofs.Stretches.{Edge, NextStretch, edge-first, begins, next, next-fits, spans-more}
+use Rattle.audit_bits.specs.Words.{GoodWords, Used}
+use Rattle.audit_bits.proofs.Stretches.{good-more, words-facts, facts-words}
 use Rattle.audit_bits.proofs.bits_ok.Statement.{statement}
 use Rattle.audit_bits.proofs.bits_ok.Tie as tie
 
 abbrev Inv-loop : tie.InvT-loop
-Inv-loop p table bits phase g₀ g = (g ≤ p) × Edge table g × GoodWords p phase table bits 0 (pageWords * g)
+Inv-loop p table bits phase g₀ g = (g ≤ p) × Edge table g × GoodWords p phase table bits 0 (pageWords * g) × ((s : ℕ) → s < g → Used p table bits s)
 
 abbrev μ-loop : tie.MeasureT-loop
 μ-loop p table bits phase g₀ g = p - g
 
+abbrev start : tie.At-loop Inv-loop μ-loop → tie.Start Inv-loop μ-loop
+start l = l .before .before .before
+
+-- where the next stretch begins
+ahead : (c : tie.In-loop Inv-loop μ-loop) → let a = start (c .before) .args in NextStretch (a .p) (a .table .now) (c .before .loop .g)
+ahead c = next (start (c .before) .pre .0 .spans) (c .before .loop .g) (c .loop-test .taken) (c .before .loop .inv .1)
+
 loop-holds : tie.Need-loop-holds Inv-loop μ-loop
-loop-holds c = (omega arith, edge-first (c .before .before .pre .0 .spans), λ w a m. absurd (omega arith))
+loop-holds c = (omega arith, edge-first (c .before .before .pre .0 .spans), λ w a m. absurd (omega arith), λ s m. absurd (omega arith))
 
--- page g is free or the first of a span, and where the next such page is
-begins : (c : tie.In-loop Inv-loop μ-loop) → let l = c .before in
-    let a = l .before .before .before .args in Begins (a .p) (a .table .now) (l .loop .g)
-begins c =
+passed-requires : tie.Need-passed-requires Inv-loop μ-loop
+passed-requires c κs =
     let l = c .before in
-    edge-begins (l .before .before .before .pre .0 .spans) (l .loop .g) (omega arith) (l .loop .inv .1)
-
-ahead : (c : tie.In-loop Inv-loop μ-loop) → let l = c .before in
-    let a = l .before .before .before .args in NextStretch (a .p) (a .table .now) (l .loop .g)
-ahead c =
-    let l = c .before in
-    next (l .before .before .before .pre .0 .spans) (l .loop .g) (l .loop .inv .1) (begins c)
-
-stretch-requires : tie.Need-stretch-requires Inv-loop μ-loop
-stretch-requires c κs =
-    let l = c .before in
-    omega (arith, l .before .before .before .pre .0)
+    let s = start l in
+    (s .pre .0, s .pre .1, begins (s .pre .0 .spans) (l .loop .g) (c .loop-test .taken) (l .loop .inv .1))
 
 add-g : tie.Need-add-g Inv-loop μ-loop
-add-g c = omega (arith, c .stretch .ensures, ahead (c .before), c .before .before .before .before .before .pre .0)
-
-stretch-ok-requires : tie.Need-stretch-ok-requires Inv-loop μ-loop
-stretch-ok-requires c κs =
-    let s = c .before .before .before .before .before in
-    (s .pre .0, s .pre .1, begins (c .before))
+add-g c =
+    let s = start (c .before .before) in
+    omega (arith, next-fits (s .pre .0 .spans) _ _ (ahead (c .before)) (c .passed .ensures .pages), s .pre .0 .few)
 
 returns : tie.Need-returns Inv-loop μ-loop
 returns c =
-    (λ x. absurd x, λ B. rw (not-true (c .before .stretch-ok .result) (c .if1 .taken)) at (c .before .stretch-ok .ensures .1 (λ w x y. facts-words (B .0) (B .1) w)))
+    let l = c .before .before .before in
+    (λ x. absurd x, λ B. c .before .passed .ensures .fault (c .if1 .taken) (facts-words (B .rules) (B .phases)) (B .occupied (l .loop .g)))
 
 loop-less : tie.Need-loop-less Inv-loop μ-loop
-loop-less c = omega (arith, c .before .before .stretch .ensures, ahead (c .before .before .before))
+loop-less c = omega (arith, c .before .passed .ensures .pages (c .if1 .left), ahead (c .before .before))
 
 loop-again : tie.Need-loop-again Inv-loop μ-loop
 loop-again c =
-    let l = c .before .before .before .before in
-    let n = ahead (c .before .before .before) in
-    rw (c .before .before .stretch .ensures) (n .inside, n .edge, good-more (l .loop .g) _ (l .loop .inv .2) (c .before .stretch-ok .ensures .0 (is-true _ (not-false (c .before .stretch-ok .result) (c .if1 .left)))))
+    let turn = c .before .before in
+    let l = turn .before in
+    let n = ahead turn in
+    let passed = c .before .passed .ensures in
+    let d = c .if1 .left in
+    rw (passed .pages d)
+    (n .inside, n .edge, good-more (l .loop .g) _ (l .loop .inv .2) (passed .words d), spans-more (start l .pre .0 .spans) _ (l .loop .g) (turn .loop-test .taken) (l .loop .inv .1) (l .loop .inv .3) (passed .used d))
 
 returns-2 : tie.Need-returns-2 Inv-loop μ-loop
 returns-2 c =
     let l = c .before in
-    let s = l .before .before .before in
+    let s = start l in
     let e : l .loop .g ≡ s .args .p = omega arith in
-    (λ _. words-facts (s .pre .1) (rw e at (l .loop .inv .2)), λ _. tt)
+    (λ _. words-facts (s .pre .0 .spans) (s .pre .1) (rw e at (l .loop .inv .2)) (rw e at (l .loop .inv .3)), λ _. tt)
 
 pub bits-ok-spec : {M : Type 1} → statement M
 bits-ok-spec =
@@ -73,9 +69,8 @@ bits-ok-spec =
     Inv-loop
     μ-loop
     loop-holds
-    stretch-requires
+    passed-requires
     add-g
-    stretch-ok-requires
     returns
     loop-less
     loop-again

@@ -13,45 +13,30 @@ use Rattle.audit_bits.proofs.free_page_ok.Statement.{statement}
 use Rattle.audit_bits.proofs.free_page_ok.Tie as tie
 
 abbrev Inv-loop : tie.InvT-loop
-Inv-loop p bits g first k₀ k = (k ≤ pageBlocks) × ((o : ℕ) → o < 64 * k → T (bare p bits (pageWords * g + o)))
+Inv-loop p bits page first k₀ k = (k ≤ pageBlocks) × ((o : ℕ) → o < 64 * k → T (bare p bits (pageWords * page + o)))
 
 abbrev μ-loop : tie.MeasureT-loop
-μ-loop p bits g first k₀ k = pageBlocks - k
-
-mul-first : tie.Need-mul-first Inv-loop μ-loop
-mul-first c = search needs
+μ-loop p bits page first k₀ k = pageBlocks - k
 
 loop-holds : tie.Need-loop-holds Inv-loop μ-loop
 loop-holds c = (search needs, λ o l. absurd (omega arith))
 
-add-at : tie.Need-add-at Inv-loop μ-loop
-add-at c = search needs
-
-add-k : tie.Need-add-k Inv-loop μ-loop
-add-k c = search needs
-
-empty-requires : tie.Need-empty-requires Inv-loop μ-loop
-empty-requires c κs = search needs
-
 -- block k of the page was tested
 tested : (c : tie.After-empty Inv-loop μ-loop) → let l = c .before .before in
-    let a = l .before .before .args in c .empty .result ≡ allBelow 64 (λ j. bare (a .p) (a .bits .now) (pageWords * a .g + (64 * l .loop .k + j)))
+    let a = l .before .before .args in c .empty .result ≡ allBelow 64 (λ j. bare (a .p) (a .bits .now) (pageWords * a .g .0 + (64 * l .loop .k + j)))
 tested c =
     let l = c .before .before in
     let a = l .before .before .args in
-    c .empty .ensures ∙ page-block (bare (a .p) (a .bits .now)) (a .g) (l .loop .k)
+    c .empty .ensures ∙ page-block (bare (a .p) (a .bits .now)) (a .g .0) (l .loop .k)
 
 returns : tie.Need-returns Inv-loop μ-loop
 returns c = fails _ _ pageBlocks (omega arith) (tested (c .before)) (not-true _ (c .if1 .taken))
-
-loop-less : tie.Need-loop-less Inv-loop μ-loop
-loop-less c = search needs
 
 loop-again : tie.Need-loop-again Inv-loop μ-loop
 loop-again c =
     let l = c .before .before .before in
     let a = l .before .before .args in
-    (search needs, more (λ o. bare (a .p) (a .bits .now) (pageWords * a .g + o)) (l .loop .k) (l .loop .inv .1) (tested (c .before)) (not-false _ (c .if1 .left)))
+    (search needs, more (λ o. bare (a .p) (a .bits .now) (pageWords * a .g .0 + o)) (l .loop .k) (l .loop .inv .1) (tested (c .before)) (not-false _ (c .if1 .left)))
 
 returns-2 : tie.Need-returns-2 Inv-loop μ-loop
 returns-2 c = passes _ _ pageBlocks (omega arith) (c .before .loop .inv .1)
@@ -59,15 +44,5 @@ returns-2 c = passes _ _ pageBlocks (omega arith) (c .before .loop .inv .1)
 pub free-page-ok-spec : {M : Type 1} → statement M
 free-page-ok-spec =
     tie.close
-    (tie.spec
-    Inv-loop
-    μ-loop
-    mul-first
-    loop-holds
-    add-at
-    add-k
-    empty-requires
-    returns
-    loop-less
-    loop-again
-    returns-2)
+    (tie.spec Inv-loop μ-loop (λ c. search needs) loop-holds (λ c. search needs) (λ c. search needs) (λ c κs. search needs) returns
+    (λ c. search needs) loop-again returns-2)

@@ -1,5 +1,4 @@
 -- The phase decides.
-use borrow.Author.Needs.{needs}
 use native.Mathlib.Omega.{arith}
 use mathlib.Core.Path.{_≡_}
 use Rattle.model.specs.Memory.{mark, sweep}
@@ -12,9 +11,6 @@ returns c =
     let e : c .before .args .phase ≡ mark = omega arith in
     rw e
 
-cast-result : tie.Need-cast-result
-cast-result c = search needs
-
 returns-2 : tie.Need-returns-2
 returns-2 c =
     let e : c .before .before .args .phase ≡ sweep = omega arith in
@@ -24,4 +20,4 @@ returns-3 : tie.Need-returns-3
 returns-3 c = rw (ne-eqb (c .before .before .args .phase) mark (omega arith), ne-eqb (c .before .before .args .phase) sweep (omega arith))
 
 pub marks-stand-spec : {M : Type 1} → statement M
-marks-stand-spec = tie.close (tie.spec returns cast-result returns-2 returns-3)
+marks-stand-spec = tie.close (tie.spec returns returns-2 returns-3)

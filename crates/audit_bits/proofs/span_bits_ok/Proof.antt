@@ -1,74 +1,48 @@
--- The audit of the page table says that the span lies in the arena, that its kind has a class, and that its elements fit into it.
+-- The span lies in the arena, and its kind has a class; marks and gray bits may stand in it as the phase says.
 use borrow.Author.Needs.{needs}
 use native.Mathlib.Omega.{arith}
-use mathlib.Core.Path.{_∙_}
-use Rattle.audit_bits.proofs.Stretches.{SpanAt, span-at}
+use mathlib.Core.Bool.{Bool, _&&_}
+use mathlib.Core.List.{List}
+use mathlib.Core.Path.{_≡_, _∙_}
+use Prim.Native.Nat.{ℕ, _*_}
+use denote.Ref.{now}
+use Rattle.model.specs.Bounded.{_==_, allBelow}
+use Rattle.model.specs.Memory.{mark, firstWord}
+use Rattle.model.specs.Classes.{elementWordsOf, elementsOf}
+use Rattle.page_table.specs.declared.Span.{Span}
+use Rattle.audit_bits.specs.Rules.{marksStand, wordRule, spanRule}
 use Rattle.audit_bits.proofs.span_bits_ok.Statement.{statement}
 use Rattle.audit_bits.proofs.span_bits_ok.Tie as tie
 
--- the span
-span : (s : tie.Start) → SpanAt (s .args .p) (s .args .table .now) (s .args .s)
-span s = span-at (s .pre .spans) (s .args .s) (s .pre .first)
+-- where the elements are known, and the function's entry
+abbrev elements : tie.After-grays-stand → tie.After-layout-of
+elements c = c .before .before
 
-page-count-requires : tie.Need-page-count-requires
-page-count-requires c κs = omega (arith, span (c .before .before), c .before .before .pre)
+abbrev start : tie.After-layout-of → tie.Start
+start c = c .before .before
 
-kind-entry-requires : tie.Need-kind-entry-requires
-kind-entry-requires c κs = omega (arith, span (c .before .before .before), c .before .before .before .pre)
-
-cast-kind : tie.Need-cast-kind
-cast-kind c = search needs
-
-rem-kind : tie.Need-rem-kind
-rem-kind c = search needs
-
-element-words-requires : tie.Need-element-words-requires
-element-words-requires c κs = omega (arith, span (c .before .before .before .before))
-
-elements-requires : tie.Need-elements-requires
-elements-requires c κs = omega (arith, span (c .before .before .before .before .before))
+-- the span's rules, by what was looked up
+by-layout : (P phase : ℕ) (b : List ℕ) (r : Span) {size count : ℕ} {marks grays : Bool} → size ≡ elementWordsOf (r .class) (r .pages) → count ≡ elementsOf (r .class) →
+    marks ≡ marksStand phase (r .unswept) → grays ≡ (phase == mark && r .scan) → (n : ℕ) →
+    allBelow n (wordRule P b (firstWord (r .start .0)) size (count * size) (record { marks = marks; grays = grays; pointers = r .scan })) ≡ allBelow n (spanRule P phase b r)
+by-layout P phase b r e f g h n = rw (e, f, g, h)
 
 mul-held : tie.Need-mul-held
-mul-held c =
-    let e = rw (c .before .before .kind-entry .ensures) at (c .elements .ensures) in
-    let n = rw (c .before .before .kind-entry .ensures, c .before .before .before .page-count .ensures) at (c .before .element-words .ensures) in
-    rw (e, n) (omega (arith, span (c .before .before .before .before .before .before)))
-
-marks-stand-requires : tie.Need-marks-stand-requires
-marks-stand-requires c κs = search needs
-
-grays-stand-requires : tie.Need-grays-stand-requires
-grays-stand-requires c κs = search needs
+mul-held c = rw (c .layout-of .ensures .1, c .layout-of .ensures .0) (omega arith)
 
 blocks-ok-requires : tie.Need-blocks-ok-requires
 blocks-ok-requires c κs =
-    let s = c .before .before .before .before .before .before .before .before in
-    let h = span s in
-    let n = rw (c .before .before .before .before .kind-entry .ensures, c .before .before .before .before .before .page-count .ensures) at (c .before .before .before .element-words .ensures) in
-    (record { few = s .pre .few; bits = s .pre .bits }, record { some = rw n (h .words); inside = rw (c .before .before .before .before .before .page-count .ensures) (h .inside) })
+    let n = elements c in
+    let s = start n in
+    (s .pre .0, record { some = rw (n .layout-of .ensures .0) (s .pre .1 .words); inside = s .pre .1 .inside })
 
 returns : tie.Need-returns
-returns c = c .blocks-ok .ensures ∙ rw (
-  c .before .grays-stand .ensures,
-  c .before .before .marks-stand .ensures,
-  c .before .before .before .elements .ensures,
-  c .before .before .before .before .element-words .ensures,
-  c .before .before .before .before .before .kind-entry .ensures,
-  c .before .before .before .before .before .before .page-count .ensures,
-)
+returns c =
+    let n = elements (c .before) in
+    let a = start n .args in
+    c .blocks-ok .ensures ∙ by-layout (a .p) (a .phase) (now (a .bits)) (a .span) (n .layout-of .ensures .0) (n .layout-of .ensures .1) (c .before .before .marks-stand .ensures) (c .before .grays-stand .ensures) _
 
 pub span-bits-ok-spec : {M : Type 1} → statement M
 span-bits-ok-spec =
     tie.close
-    (tie.spec
-    page-count-requires
-    kind-entry-requires
-    cast-kind
-    rem-kind
-    element-words-requires
-    elements-requires
-    mul-held
-    marks-stand-requires
-    grays-stand-requires
-    blocks-ok-requires
-    returns)
+    (tie.spec (λ c κs. search needs) mul-held (λ c κs. search needs) (λ c κs. search needs) blocks-ok-requires returns)

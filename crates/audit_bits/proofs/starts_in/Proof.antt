@@ -6,9 +6,6 @@ use Rattle.audit_bits.proofs.Masks.{on-up, on-none}
 use Rattle.audit_bits.proofs.starts_in.Statement.{statement}
 use Rattle.audit_bits.proofs.starts_in.Tie as tie
 
-shl-result : tie.Need-shl-result
-shl-result c = search needs
-
 returns : tie.Need-returns
 returns c = on-up (c .before .args .starts) (c .before .args .off)
 
@@ -16,4 +13,4 @@ returns-2 : tie.Need-returns-2
 returns-2 c = λ j l. rw (on-none j, lt-leb (c .before .args .off) j (omega arith))
 
 pub starts-in-spec : {M : Type 1} → statement M
-starts-in-spec = tie.close (tie.spec shl-result returns returns-2)
+starts-in-spec = tie.close (tie.spec (λ c. search needs) returns returns-2)

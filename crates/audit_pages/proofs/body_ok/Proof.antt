@@ -1,5 +1,5 @@
-use Rattle.model.proofs.Answers.{yes, no}
 -- The invariant: the span's further pages below g are so.
+use Rattle.model.proofs.Answers.{yes, no}
 use Rattle.audit_pages.specs.Pass.{Further}
 use Rattle.audit_pages.proofs.Pass.{body-more}
 use native.Mathlib.Omega.{arith}
@@ -10,31 +10,16 @@ use Rattle.audit_pages.proofs.body_ok.Statement.{statement}
 use Rattle.audit_pages.proofs.body_ok.Tie as tie
 
 abbrev Inv-loop : tie.InvT-loop
-Inv-loop p table s count end g₀ g = (s < g) × (end ≡ s + count) × ((k : ℕ) → s < k → k < g → k < end → Further table s k)
+Inv-loop p table s count start end g₀ g = (s .0 < g) × (end ≡ s .0 + count) × ((k : ℕ) → s .0 < k → k < g → k < end → Further table (s .0) k)
 
 abbrev μ-loop : tie.MeasureT-loop
-μ-loop p table s count end g₀ g = end - g
-
-add-end : tie.Need-add-end Inv-loop μ-loop
-add-end c = search needs
-
-add-g : tie.Need-add-g Inv-loop μ-loop
-add-g c = search needs
+μ-loop p table s count start end g₀ g = end - g
 
 loop-holds : tie.Need-loop-holds Inv-loop μ-loop
 loop-holds c = (search needs, search needs, λ k a b d. absurd (omega arith))
 
-add-g-2 : tie.Need-add-g-2 Inv-loop μ-loop
-add-g-2 c = search needs
-
-further-ok-requires : tie.Need-further-ok-requires Inv-loop μ-loop
-further-ok-requires c κs = search needs
-
 returns : tie.Need-returns Inv-loop μ-loop
 returns c = let l = c .before .before .before .loop in (λ t. absurd t, λ h. no (c .before .further-ok .result) (c .before .further-ok .ensures) (c .if1 .taken) (h (l .g) (l .inv .0) (omega arith)))
-
-loop-less : tie.Need-loop-less Inv-loop μ-loop
-loop-less c = search needs
 
 loop-again : tie.Need-loop-again Inv-loop μ-loop
 loop-again c =
@@ -47,15 +32,5 @@ returns-2 c = let l = c .before .loop in (λ _ k a b. l .inv .2 k a (omega arith
 pub body-ok-spec : {M : Type 1} → statement M
 body-ok-spec =
     tie.close
-    (tie.spec
-    Inv-loop
-    μ-loop
-    add-end
-    add-g
-    loop-holds
-    add-g-2
-    further-ok-requires
-    returns
-    loop-less
-    loop-again
-    returns-2)
+    (tie.spec Inv-loop μ-loop (λ c. search needs) (λ c. search needs) loop-holds (λ c. search needs) (λ c κs. search needs) returns
+    (λ c. search needs) loop-again returns-2)

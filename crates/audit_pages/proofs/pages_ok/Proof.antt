@@ -16,17 +16,11 @@ abbrev μ-loop : tie.MeasureT-loop
 loop-holds : tie.Need-loop-holds Inv-loop μ-loop
 loop-holds c = none _ _ _
 
-passed-requires : tie.Need-passed-requires Inv-loop μ-loop
-passed-requires c κs = search needs
-
 add-g : tie.Need-add-g Inv-loop μ-loop
 add-g c = let s = step-fits _ _ _ _ (c .before .before .loop .inv) (c .before .loop-test .taken) _ (c .passed .ensures) in search needs
 
 returns : tie.Need-returns Inv-loop μ-loop
 returns c = let l = c .before .before .before .loop in (λ t. absurd t, λ h. fault _ _ _ _ (l .inv) (c .before .before .loop-test .taken) (rw (c .if1 .taken) at (c .before .passed .ensures)) h)
-
-loop-less : tie.Need-loop-less Inv-loop μ-loop
-loop-less c = search needs
 
 loop-again : tie.Need-loop-again Inv-loop μ-loop
 loop-again c = step _ _ _ _ (c .before .before .before .loop .inv) (c .before .before .loop-test .taken) _ (c .before .passed .ensures) (c .if1 .left)
@@ -37,13 +31,4 @@ returns-2 c = let l = c .before .loop in let p = c .before .before .before .args
 pub pages-ok-spec : {M : Type 1} → statement M
 pages-ok-spec =
     tie.close
-    (tie.spec
-    Inv-loop
-    μ-loop
-    loop-holds
-    passed-requires
-    add-g
-    returns
-    loop-less
-    loop-again
-    returns-2)
+    (tie.spec Inv-loop μ-loop loop-holds (λ c κs. search needs) add-g returns (λ c. search needs) loop-again returns-2)

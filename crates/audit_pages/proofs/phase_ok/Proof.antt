@@ -5,15 +5,6 @@ use borrow.Author.Needs.{needs}
 use Rattle.audit_pages.proofs.phase_ok.Statement.{statement}
 use Rattle.audit_pages.proofs.phase_ok.Tie as tie
 
-shared-slice-read-phase : tie.Need-shared-slice-read-phase
-shared-slice-read-phase c = search needs
-
-shared-slice-read-state : tie.Need-shared-slice-read-state
-shared-slice-read-state c = search needs
-
-returns : tie.Need-returns
-returns c = search needs
-
 returns-2 : tie.Need-returns-2
 returns-2 c = globals-gray _ (c .if2 .taken)
 
@@ -23,4 +14,4 @@ returns-3 c = globals-scanned _ (omega arith) (c .if2 .left)
 pub phase-ok-spec : {M : Type 1} → statement M
 phase-ok-spec =
     tie.close
-    (tie.spec shared-slice-read-phase shared-slice-read-state returns returns-2 returns-3)
+    (tie.spec (λ c. search needs) (λ c. search needs) (λ c. search needs) returns-2 returns-3)

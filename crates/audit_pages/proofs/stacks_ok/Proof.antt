@@ -18,17 +18,8 @@ abbrev μ-loop : tie.MeasureT-loop
 loop-holds : tie.Need-loop-holds Inv-loop μ-loop
 loop-holds c = (search needs, below-none _)
 
-add-s : tie.Need-add-s Inv-loop μ-loop
-add-s c = search needs
-
-stack-ok-requires : tie.Need-stack-ok-requires Inv-loop μ-loop
-stack-ok-requires c κs = search needs
-
 returns : tie.Need-returns Inv-loop μ-loop
 returns c = let l = c .before .before .before .loop in (λ t. absurd t, λ h. no (c .before .stack-ok .result) (c .before .stack-ok .ensures) (c .if1 .taken) (h (l .s) (omega arith)))
-
-loop-less : tie.Need-loop-less Inv-loop μ-loop
-loop-less c = search needs
 
 loop-again : tie.Need-loop-again Inv-loop μ-loop
 loop-again c = let l = c .before .before .before .loop in (search needs, below-more _ _ (l .inv .1) (yes (c .before .stack-ok .result) (c .before .stack-ok .ensures) (c .if1 .left)))
@@ -39,13 +30,4 @@ returns-2 c = let l = c .before .loop in (λ _ k m. l .inv .1 k (omega arith), �
 pub stacks-ok-spec : {M : Type 1} → statement M
 stacks-ok-spec =
     tie.close
-    (tie.spec
-    Inv-loop
-    μ-loop
-    loop-holds
-    add-s
-    stack-ok-requires
-    returns
-    loop-less
-    loop-again
-    returns-2)
+    (tie.spec Inv-loop μ-loop loop-holds (λ c. search needs) (λ c κs. search needs) returns (λ c. search needs) loop-again returns-2)

@@ -19,8 +19,9 @@ Inv-loop p arena table bits swept at pointers first left₀ left = (first ≡ 64
 abbrev μ-loop : tie.MeasureT-loop
 μ-loop p arena table bits swept at pointers first left₀ left = 64 - trailingZeros 64 left
 
-mul-first : tie.Need-mul-first Inv-loop μ-loop
-mul-first c = search needs
+-- the loop's test before a value was tested
+abbrev turn : tie.After-is-reference Inv-loop μ-loop → tie.In-loop Inv-loop μ-loop
+turn c = c .before .before
 
 loop-holds : tie.Need-loop-holds Inv-loop μ-loop
 loop-holds c = (search needs, search needs, taken-none _ _ _ _ _ _)
@@ -40,28 +41,28 @@ shared-slice-read-value c = let l = low _ (c .before .before .loop .inv .1) (c .
 shl-left : tie.Need-shl-left Inv-loop μ-loop
 shl-left c = let l = low _ (c .before .before .loop .inv .1) (c .before .loop-test .taken) in omega arith
 
-is-reference-requires : tie.Need-is-reference-requires Inv-loop μ-loop
-is-reference-requires c κs = search needs
-
 returns : tie.Need-returns Inv-loop μ-loop
 returns c =
-    let l = c .before .before .before .before .loop in
-    let some = c .before .before .before .loop-test .taken in
+    let t = turn (c .before) in
+    let l = t .before .loop in
+    let some = t .loop-test .taken in
     (λ t. absurd t, λ h. no (c .before .is-reference .result) (c .before .is-reference .ensures) (c .if1 .taken) (rw (l .inv .0) (h _ (low _ (l .inv .1) some) (l .inv .2 .among _ (low _ (l .inv .1) some) (lowest-on _ (l .inv .1) some)))))
 
 loop-less : tie.Need-loop-less Inv-loop μ-loop
 unfolding withBitOf
 loop-less c =
-    let l = c .before .before .before .before .loop in
-    let some = c .before .before .before .loop-test .taken in
+    let t = turn (c .before) in
+    let l = t .before .loop in
+    let some = t .loop-test .taken in
     let z = low _ (l .inv .1) some in
     rw (one-up (trailingZeros 64 (l .left)) z) (omega (arith, higher _ (l .inv .1) some))
 
 loop-again : tie.Need-loop-again Inv-loop μ-loop
 unfolding withBitOf
 loop-again c =
-    let l = c .before .before .before .before .loop in
-    let some = c .before .before .before .loop-test .taken in
+    let t = turn (c .before) in
+    let l = t .before .loop in
+    let some = t .loop-test .taken in
     let z = low _ (l .inv .1) some in
     rw (one-up (trailingZeros 64 (l .left)) z)
     (l .inv .0, with-bit-fits _ false _ z (l .inv .1), taken-one _ _ _ _ _ _ _ (l .inv .1) some (l .inv .2) (rw (l .inv .0) at (yes (c .before .is-reference .result) (c .before .is-reference .ensures) (c .if1 .left))))
@@ -72,18 +73,5 @@ returns-2 c = (λ _. taken-all _ _ _ _ _ _ (rw (c .loop-test .left) at (c .befor
 pub block-ok-spec : {M : Type 1} → statement M
 block-ok-spec =
     tie.close
-    (tie.spec
-    Inv-loop
-    μ-loop
-    mul-first
-    loop-holds
-    cast-j
-    add-value
-    mul-value
-    shared-slice-read-value
-    shl-left
-    is-reference-requires
-    returns
-    loop-less
-    loop-again
-    returns-2)
+    (tie.spec Inv-loop μ-loop (λ c. search needs) loop-holds cast-j add-value mul-value shared-slice-read-value shl-left (λ c κs. search needs)
+    returns loop-less loop-again returns-2)

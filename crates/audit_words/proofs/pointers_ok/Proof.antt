@@ -19,55 +19,46 @@ use Rattle.audit_words.proofs.pointers_ok.Statement.{statement}
 use Rattle.audit_words.proofs.pointers_ok.Tie as tie
 
 abbrev Inv-loop : tie.InvT-loop
-Inv-loop p arena table bits w n first f₀ f = (f ≤ n) × (first ≡ 3 * (pageWords * p) + w) × ((k : ℕ) → k < f → T (bit p pointer bits (w + k)) × Reference p table bits (getD arena (w + k) 0))
+Inv-loop p arena table bits n start first f₀ f = (f ≤ n) × (first ≡ 3 * (pageWords * p) + start) × ((k : ℕ) → k < f → T (bit p pointer bits (start + k)) × Reference p table bits (getD arena (start + k) 0))
 
 abbrev μ-loop : tie.MeasureT-loop
-μ-loop p arena table bits w n first f₀ f = n - f
+μ-loop p arena table bits n start first f₀ f = n - f
 
-mul-first : tie.Need-mul-first Inv-loop μ-loop
-mul-first c = search needs
+-- the places: the function's entry, and the loop's test before a pointer bit was tested
+abbrev start : tie.At-loop Inv-loop μ-loop → tie.Start Inv-loop μ-loop
+start l = l .before .before .before .before
 
-mul-first-2 : tie.Need-mul-first-2 Inv-loop μ-loop
-mul-first-2 c = search needs
-
-add-first : tie.Need-add-first Inv-loop μ-loop
-add-first c = search needs
+abbrev turn : tie.After-test Inv-loop μ-loop → tie.At-loop Inv-loop μ-loop
+turn c = c .before .before .before
 
 loop-holds : tie.Need-loop-holds Inv-loop μ-loop
 loop-holds c = (search needs, search needs, λ k l. absurd (omega arith))
 
-add-value : tie.Need-add-value Inv-loop μ-loop
-add-value c = search needs
-
-mul-value : tie.Need-mul-value Inv-loop μ-loop
-mul-value c = search needs
-
-shared-slice-read-value : tie.Need-shared-slice-read-value Inv-loop μ-loop
-shared-slice-read-value c = search needs
-
-add-at : tie.Need-add-at Inv-loop μ-loop
-add-at c = search needs
-
-add-f : tie.Need-add-f Inv-loop μ-loop
-add-f c = search needs
-
-test-requires : tie.Need-test-requires Inv-loop μ-loop
-test-requires c κs = search needs
-
 returns : tie.Need-returns Inv-loop μ-loop
-returns c = let l = c .before .before .before .before .loop in let z = c .before .before .before .before .before .before .before .before in (λ _. stopped _ _ _ _ (z .pre .0) _ _ (z .pre .1) (l .f) (omega arith) (l .inv .2) (sym (pointer-is _ _ _ _ _ (omega arith) (omega arith)) ∙ sym (c .before .test .ensures) ∙ not-true _ (c .if1 .taken)), λ _. tt)
+returns c =
+    let t = turn (c .before) in
+    let z = start t in
+    (λ _. stopped _ _ _ _ (z .pre .0) _ _ (z .pre .1) (t .loop .f) (omega arith) (t .loop .inv .2) (sym (pointer-is _ _ _ _ _ (omega arith) (omega arith)) ∙ sym (c .before .test .ensures) ∙ not-true _ (c .if1 .taken)), λ _. tt)
 
 is-reference-requires : tie.Need-is-reference-requires Inv-loop μ-loop
 is-reference-requires c κs = (search needs, λ e. absurd (true≢false (sym e)))
 
-returns-2 : tie.Need-returns-2 Inv-loop μ-loop
-returns-2 c = let l = c .before .before .before .before .before .before .loop in (λ t. absurd t, λ h. no (c .before .is-reference .result) (c .before .is-reference .ensures) (c .if2 .taken) (h (l .f) (omega arith) (is-true _ (sym (pointer-is _ _ _ _ _ (omega arith) (omega arith)) ∙ sym (c .before .before .before .test .ensures) ∙ not-false _ (c .before .before .if1 .left)))))
+-- the word is a pointer
+pointed : (c : tie.Else1 Inv-loop μ-loop) → let t = turn (c .before) in
+    let a = start t .args in T (bit (a .p) pointer (a .bits .now) (a .w .0 + t .loop .f))
+pointed c = is-true _ (sym (pointer-is _ _ _ _ _ (omega arith) (omega arith)) ∙ sym (c .before .test .ensures) ∙ not-false _ (c .if1 .left))
 
-loop-less : tie.Need-loop-less Inv-loop μ-loop
-loop-less c = search needs
+returns-2 : tie.Need-returns-2 Inv-loop μ-loop
+returns-2 c =
+    let asked = c .before in
+    let t = turn (asked .before .before) in
+    (λ x. absurd x, λ h. no (asked .is-reference .result) (asked .is-reference .ensures) (c .if2 .taken) (h (t .loop .f) (omega arith) (pointed (asked .before))))
 
 loop-again : tie.Need-loop-again Inv-loop μ-loop
-loop-again c = let l = c .before .before .before .before .before .before .loop in (search needs, search needs, below-more _ _ (l .inv .2) (is-true _ (sym (pointer-is _ _ _ _ _ (omega arith) (omega arith)) ∙ sym (c .before .before .before .test .ensures) ∙ not-false _ (c .before .before .if1 .left)), yes (c .before .is-reference .result) (c .before .is-reference .ensures) (c .if2 .left)))
+loop-again c =
+    let asked = c .before in
+    let t = turn (asked .before .before) in
+    (search needs, search needs, below-more _ _ (t .loop .inv .2) (pointed (asked .before), yes (asked .is-reference .result) (asked .is-reference .ensures) (c .if2 .left)))
 
 returns-3 : tie.Need-returns-3 Inv-loop μ-loop
 returns-3 c = let l = c .before .loop in (λ _ k m _. l .inv .2 k (omega arith) .1, λ _. tt)
@@ -75,22 +66,6 @@ returns-3 c = let l = c .before .loop in (λ _ k m _. l .inv .2 k (omega arith) 
 pub pointers-ok-spec : {M : Type 1} → statement M
 pointers-ok-spec =
     tie.close
-    (tie.spec
-    Inv-loop
-    μ-loop
-    mul-first
-    mul-first-2
-    add-first
-    loop-holds
-    add-value
-    mul-value
-    shared-slice-read-value
-    add-at
-    add-f
-    test-requires
-    returns
-    is-reference-requires
-    returns-2
-    loop-less
-    loop-again
-    returns-3)
+    (tie.spec Inv-loop μ-loop (λ c. search needs) (λ c. search needs) (λ c. search needs) loop-holds (λ c. search needs) (λ c. search needs)
+    (λ c. search needs) (λ c. search needs) (λ c. search needs) (λ c κs. search needs) returns is-reference-requires returns-2 (λ c. search needs)
+    loop-again returns-3)

@@ -15,29 +15,26 @@ Inv-loop p table bits roots swept from to i₀ i = (from ≤ i) × RootRange p t
 abbrev μ-loop : tie.MeasureT-loop
 μ-loop p table bits roots swept from to i₀ i = to - i
 
+-- the places: the function's entry, and the loop's test before a root was tested
+abbrev start : tie.At-loop Inv-loop μ-loop → tie.Start Inv-loop μ-loop
+start l = l .before .before .before .before
+
+abbrev turn : tie.After-is-reference Inv-loop μ-loop → tie.At-loop Inv-loop μ-loop
+turn c = c .before .before .before
+
 loop-holds : tie.Need-loop-holds Inv-loop μ-loop
 loop-holds c = (search needs, λ k l m. absurd (omega arith))
 
-mul-value : tie.Need-mul-value Inv-loop μ-loop
-mul-value c = search needs
-
-shared-slice-read-value : tie.Need-shared-slice-read-value Inv-loop μ-loop
-shared-slice-read-value c = search needs
-
-add-i : tie.Need-add-i Inv-loop μ-loop
-add-i c = search needs
-
-is-reference-requires : tie.Need-is-reference-requires Inv-loop μ-loop
-is-reference-requires c κs = search needs
-
 returns : tie.Need-returns Inv-loop μ-loop
-returns c = let l = c .before .before .before .before .loop in (λ t. absurd t, λ h. no (c .before .is-reference .result) (c .before .is-reference .ensures) (c .if1 .taken) (h (l .i) (l .inv .0) (omega arith)))
-
-loop-less : tie.Need-loop-less Inv-loop μ-loop
-loop-less c = search needs
+returns c =
+    let l = turn (c .before) .loop in
+    (λ t. absurd t, λ h. no (c .before .is-reference .result) (c .before .is-reference .ensures) (c .if1 .taken) (h (l .i) (l .inv .0) (omega arith)))
 
 loop-again : tie.Need-loop-again Inv-loop μ-loop
-loop-again c = let l = c .before .before .before .before .loop in (search needs, range-more _ _ _ (now (c .before .before .before .before .before .before .before .before .args .roots)) _ _ (l .inv .1) (yes (c .before .is-reference .result) (c .before .is-reference .ensures) (c .if1 .left)))
+loop-again c =
+    let t = turn (c .before) in
+    let l = t .loop in
+    (search needs, range-more _ _ _ (now (start t .args .roots)) _ _ (l .inv .1) (yes (c .before .is-reference .result) (c .before .is-reference .ensures) (c .if1 .left)))
 
 returns-2 : tie.Need-returns-2 Inv-loop μ-loop
 returns-2 c = let l = c .before .loop in (λ _ k m n. l .inv .1 k m (omega arith), λ _. tt)
@@ -45,15 +42,5 @@ returns-2 c = let l = c .before .loop in (λ _ k m n. l .inv .1 k m (omega arith
 pub range-ok-spec : {M : Type 1} → statement M
 range-ok-spec =
     tie.close
-    (tie.spec
-    Inv-loop
-    μ-loop
-    loop-holds
-    mul-value
-    shared-slice-read-value
-    add-i
-    is-reference-requires
-    returns
-    loop-less
-    loop-again
-    returns-2)
+    (tie.spec Inv-loop μ-loop loop-holds (λ c. search needs) (λ c. search needs) (λ c. search needs) (λ c κs. search needs) returns
+    (λ c. search needs) loop-again returns-2)

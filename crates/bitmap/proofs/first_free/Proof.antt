@@ -1,10 +1,14 @@
 -- The invariant: no free element starts in the words before word number `at`, and `off` is the lowest bit of that word at which one starts.
-use Prim.Native.Nat.{_-_, _*_}
+use Prim.Native.Nat.{_-_, _*_, _%_, _^_}
 use mathlib.Core.Path.{_∙_}
 use native.Mathlib.Omega.{arith}
+use lib.Bits.{bitAnd}
+use lib.Count.{trailingZeros}
+use lib.ListN.{getD}
 use denote.Ref.{now}
 use borrow.Author.Needs.{needs}
-use Rattle.bitmap.proofs.Scan.{None}
+use Rattle.bitmap.proofs.Bits.{trailing-fits}
+use Rattle.bitmap.proofs.Scan.{None, Passed}
 use Rattle.bitmap.proofs.FirstFree.{StartAt, start-first, start-next, freeStart, none-before, none-next, scan-free, found-free, none-free}
 use Rattle.bitmap.proofs.first_free.Statement.{statement}
 use Rattle.bitmap.proofs.first_free.Tie as tie
@@ -15,17 +19,23 @@ Inv-loop ws first size count starts end rest at₀ off₀ at off = StartAt first
 abbrev μ-loop : tie.MeasureT-loop
 μ-loop ws first size count starts end rest at₀ off₀ at off = end - at
 
-mul-words-below : tie.Need-mul-words-below Inv-loop μ-loop
-mul-words-below c = search needs
+-- the function's entry, from the loop and from the word at hand
+abbrev start : tie.At-loop Inv-loop μ-loop → tie.Start Inv-loop μ-loop
+start c = c .before .before .before
 
-add-words-below : tie.Need-add-words-below Inv-loop μ-loop
-add-words-below c = search needs
+abbrev turn : tie.After-shared-slice-known2 Inv-loop μ-loop → tie.At-loop Inv-loop μ-loop
+turn c = c .before .before
 
-words-below-requires : tie.Need-words-below-requires Inv-loop μ-loop
-words-below-requires c κs = search needs
-
-rem-rest : tie.Need-rem-rest Inv-loop μ-loop
-rem-rest c = search needs
+-- what the word at hand says
+seen : (c : tie.After-shared-slice-known2 Inv-loop μ-loop) →
+    let a = start (turn c) .args in
+    let ws = now (a .ws) in
+    let l = turn c .loop in
+    Passed (freeStart ws (a .first) (a .size)) (l .at) (trailingZeros 64 (bitAnd ((2 ^ 64 - 1) - getD ws (l .at) 0) (a .starts * 2 ^ l .off % 2 ^ 64)))
+seen c =
+    let s = start (turn c) in
+    let l = turn c .loop in
+    scan-free (now (s .args .ws)) (s .pre .starts) (l .inv .0) (c .shared-slice-known2 .given (l .at) .fits) (l .inv .1)
 
 loop-holds : tie.Need-loop-holds Inv-loop μ-loop
 loop-holds c =
@@ -33,92 +43,33 @@ loop-holds c =
     let e = c .before .before .pre in
     (start-first (a .first) (a .size) (e .aligned) (e .some), none-before (now (a .ws)) (a .first) (a .size))
 
-mul-free : tie.Need-mul-free Inv-loop μ-loop
-mul-free c = search needs
-
-shared-slice-read-free : tie.Need-shared-slice-read-free Inv-loop μ-loop
-shared-slice-read-free c = search needs
-
-shl-free : tie.Need-shl-free Inv-loop μ-loop
-shl-free c = search needs
-
-mul-lower : tie.Need-mul-lower Inv-loop μ-loop
-mul-lower c = search needs
-
-cast-lower : tie.Need-cast-lower Inv-loop μ-loop
-cast-lower c = search needs
-
-add-lower : tie.Need-add-lower Inv-loop μ-loop
-add-lower c = search needs
-
-sub-lower : tie.Need-sub-lower Inv-loop μ-loop
-sub-lower c = search needs
-
-div-lower : tie.Need-div-lower Inv-loop μ-loop
-div-lower c = search needs
-
-lower-requires : tie.Need-lower-requires Inv-loop μ-loop
-lower-requires c κs = search needs
+cast-free : tie.Need-cast-free Inv-loop μ-loop
+cast-free c = trailing-fits _
 
 returns : tie.Need-returns Inv-loop μ-loop
 returns c =
-    let s = c .before .before .before .before .before .before .before in
+    let word = c .before .before in
+    let s = start (turn word) in
     let a = s .args in
-    let l = c .before .before .before .before .loop in
-    let seen = scan-free (now (a .ws)) (s .pre .starts) (l .inv .0) (omega (arith, c .before .before .shared-slice-known2 .given (l .at))) (l .inv .1) in
-    c .lower .ensures ∙ found-free (now (a .ws)) (a .first) (a .size) (a .count) (s .pre .some) (l .inv .0) seen (omega arith)
-
-next-start-requires : tie.Need-next-start-requires Inv-loop μ-loop
-next-start-requires c κs = search needs
-
-add-at : tie.Need-add-at Inv-loop μ-loop
-add-at c = search needs
-
-add-at-2 : tie.Need-add-at-2 Inv-loop μ-loop
-add-at-2 c = search needs
-
-loop-less : tie.Need-loop-less Inv-loop μ-loop
-loop-less c = search needs
+    c .lower .ensures ∙ found-free (now (a .ws)) (a .first) (a .size) (a .count) (s .pre .some) (turn word .loop .inv .0) (seen word) (omega arith)
 
 loop-again : tie.Need-loop-again Inv-loop μ-loop
 loop-again c =
-    let s = c .before .before .before .before .before .before .before in
-    let ws = now (s .args .ws) in
-    let l = c .before .before .before .before .loop in
-    let seen = scan-free ws (s .pre .starts) (l .inv .0) (omega (arith, c .before .before .shared-slice-known2 .given (l .at))) (l .inv .1) in
+    let word = c .before .before in
+    let at = turn word .loop .inv .0 in
     let n = c .next-start in
-    (start-next (l .inv .0) (n .result) (n .ensures .0) (n .ensures .1), none-next ws (n .result) (l .inv .0) (n .ensures .0) (n .ensures .1) seen (omega arith))
+    (start-next at (n .result) (n .ensures .0) (n .ensures .1), none-next (now (start (turn word) .args .ws)) (n .result) at (n .ensures .0) (n .ensures .1) (seen word) (omega arith))
 
 returns-2 : tie.Need-returns-2 Inv-loop μ-loop
 returns-2 c =
-    let s = c .before .before .before .before in
+    let l = c .before .loop in
+    let s = start (c .before) in
     let a = s .args in
-    none-free (now (a .ws)) (a .first) (a .size) (a .count) (s .pre .some) (c .before .loop .at * 64) (c .before .loop .inv .1) (omega arith)
+    none-free (now (a .ws)) (a .first) (a .size) (a .count) (s .pre .some) (l .at * 64) (l .inv .1) (omega arith)
 
 pub first-free-spec : {M : Type 1} → statement M
 first-free-spec =
     tie.close
-    (tie.spec
-    Inv-loop
-    μ-loop
-    mul-words-below
-    add-words-below
-    words-below-requires
-    rem-rest
-    loop-holds
-    mul-free
-    shared-slice-read-free
-    shl-free
-    mul-lower
-    cast-lower
-    add-lower
-    sub-lower
-    div-lower
-    lower-requires
-    returns
-    next-start-requires
-    add-at
-    add-at-2
-    loop-less
-    loop-again
-    returns-2)
+    (tie.spec Inv-loop μ-loop (λ c. search needs) (λ c. search needs) (λ c κs. search needs) (λ c. search needs) loop-holds (λ c. search needs)
+    (λ c. search needs) (λ c. search needs) cast-free (λ c. search needs) (λ c. search needs) (λ c. search needs) (λ c. search needs)
+    (λ c κs. search needs) returns (λ c κs. search needs) (λ c. search needs) (λ c. search needs) (λ c. search needs) loop-again returns-2)

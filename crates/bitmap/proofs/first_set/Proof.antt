@@ -2,10 +2,14 @@
 use Prim.Native.Nat.{_-_, _*_}
 use mathlib.Core.Path.{_∙_}
 use native.Mathlib.Omega.{arith}
+use lib.Bits.{bitAnd}
+use lib.Count.{trailingZeros}
+use lib.ListN.{getD}
 use denote.Ref.{now}
 use borrow.Author.Needs.{needs}
 use Rattle.model.specs.Bitmaps.{bitAt}
-use Rattle.bitmap.proofs.Scan.{None, whole-word}
+use Rattle.bitmap.proofs.Bits.{trailing-fits}
+use Rattle.bitmap.proofs.Scan.{None, Passed, whole-word}
 use Rattle.bitmap.proofs.Search.{Masked, masked-first, masked-next, passFrom, none-passed, scan-set, found, none-found}
 use Rattle.bitmap.proofs.first_set.Statement.{statement}
 use Rattle.bitmap.proofs.first_set.Tie as tie
@@ -16,74 +20,44 @@ Inv-loop ws from to end at₀ mask₀ at mask = Masked from at mask × None (pas
 abbrev μ-loop : tie.MeasureT-loop
 μ-loop ws from to end at₀ mask₀ at mask = end - at
 
-words-below-requires : tie.Need-words-below-requires Inv-loop μ-loop
-words-below-requires c κs = search needs
+-- the function's entry, from the loop and from the word at hand
+abbrev start : tie.At-loop Inv-loop μ-loop → tie.Start Inv-loop μ-loop
+start c = c .before .before .before
 
-shl-mask : tie.Need-shl-mask Inv-loop μ-loop
-shl-mask c = search needs
+abbrev turn : tie.After-shared-slice-known2 Inv-loop μ-loop → tie.At-loop Inv-loop μ-loop
+turn c = c .before .before
+
+-- what the word at hand says
+seen : (c : tie.After-shared-slice-known2 Inv-loop μ-loop) →
+    let a = start (turn c) .args in
+    let ws = now (a .ws) in
+    let at = turn c .loop .at in
+    Passed (passFrom (bitAt ws) (a .from)) at (trailingZeros 64 (bitAnd (getD ws at 0) (turn c .loop .mask)))
+seen c = let i = turn c .loop .inv in scan-set (now (start (turn c) .args .ws)) (i .0) (i .1)
 
 loop-holds : tie.Need-loop-holds Inv-loop μ-loop
 loop-holds c = let a = c .before .before .args in (masked-first (a .from), none-passed (bitAt (now (a .ws))) (a .from))
 
-mul-found : tie.Need-mul-found Inv-loop μ-loop
-mul-found c = search needs
-
-shared-slice-read-found : tie.Need-shared-slice-read-found Inv-loop μ-loop
-shared-slice-read-found c = search needs
-
-mul-lower : tie.Need-mul-lower Inv-loop μ-loop
-mul-lower c = search needs
-
-cast-lower : tie.Need-cast-lower Inv-loop μ-loop
-cast-lower c = search needs
-
-add-lower : tie.Need-add-lower Inv-loop μ-loop
-add-lower c = search needs
-
-lower-requires : tie.Need-lower-requires Inv-loop μ-loop
-lower-requires c κs = search needs
+cast-found : tie.Need-cast-found Inv-loop μ-loop
+cast-found c = trailing-fits _
 
 returns : tie.Need-returns Inv-loop μ-loop
 returns c =
-    let s = c .before .before .before .before .before .before .before in
-    let ws = now (s .args .ws) in
-    let inv = c .before .before .before .before .loop .inv in
-    c .lower .ensures ∙ found (bitAt ws) (s .args .from) (s .args .to) (s .pre .0) (scan-set ws (inv .0) (inv .1)) (omega arith)
-
-add-at : tie.Need-add-at Inv-loop μ-loop
-add-at c = search needs
-
-loop-less : tie.Need-loop-less Inv-loop μ-loop
-loop-less c = search needs
+    let word = c .before .before in
+    let s = start (turn word) in
+    c .lower .ensures ∙ found (bitAt (now (s .args .ws))) (s .args .from) (s .args .to) (s .pre .0) (seen word) (omega arith)
 
 loop-again : tie.Need-loop-again Inv-loop μ-loop
-loop-again c =
-    let inv = c .before .before .before .loop .inv in
-    let ws = now (c .before .before .before .before .before .before .args .ws) in
-    (masked-next (inv .0), whole-word (scan-set ws (inv .0) (inv .1)) (omega arith))
+loop-again c = (masked-next (turn (c .before) .loop .inv .0), whole-word (seen (c .before)) (omega arith))
 
 returns-2 : tie.Need-returns-2 Inv-loop μ-loop
 returns-2 c =
-    let s = c .before .before .before .before in
-    none-found (bitAt (now (s .args .ws))) (s .args .from) (s .args .to) (s .pre .0) (c .before .loop .at * 64) (c .before .loop .inv .1) (omega arith)
+    let l = c .before .loop in
+    let s = start (c .before) in
+    none-found (bitAt (now (s .args .ws))) (s .args .from) (s .args .to) (s .pre .0) (l .at * 64) (l .inv .1) (omega arith)
 
 pub first-set-spec : {M : Type 1} → statement M
 first-set-spec =
     tie.close
-    (tie.spec
-    Inv-loop
-    μ-loop
-    words-below-requires
-    shl-mask
-    loop-holds
-    mul-found
-    shared-slice-read-found
-    mul-lower
-    cast-lower
-    add-lower
-    lower-requires
-    returns
-    add-at
-    loop-less
-    loop-again
-    returns-2)
+    (tie.spec Inv-loop μ-loop (λ c κs. search needs) (λ c. search needs) loop-holds (λ c. search needs) (λ c. search needs) cast-found
+    (λ c. search needs) (λ c. search needs) (λ c κs. search needs) returns (λ c. search needs) (λ c. search needs) loop-again returns-2)

@@ -11,9 +11,6 @@ use Rattle.bitmap.proofs.next_start.Tie as tie
 sub-result : tie.Need-sub-result
 sub-result c = omega (arith, mod-lt 64 {m = c .before .args .size} (omega arith))
 
-add-result : tie.Need-add-result
-add-result c = search needs
-
 returns : tie.Need-returns
 returns c =
     let a = c .before .args in
@@ -28,4 +25,4 @@ returns-2 c =
     (omega arith, rw e (same-offset (a .size) (a .off) (64 / a .size) (c .before .pre .0)))
 
 pub next-start-spec : {M : Type 1} → statement M
-next-start-spec = tie.close (tie.spec sub-result add-result returns returns-2)
+next-start-spec = tie.close (tie.spec sub-result (λ c. search needs) returns returns-2)

@@ -24,12 +24,13 @@ Inv-loop size t k₀ k = (k ≤ rows) × ((i : ℕ) → i < k → holds size i �
 abbrev μ-loop : tie.MeasureT-loop
 μ-loop size t k₀ k = rows - k
 
+-- the function's entry, from a turn of the loop
+abbrev start : tie.At-loop Inv-loop μ-loop → tie.Start Inv-loop μ-loop
+start c = c .before .before .before
+
 returns : tie.Need-returns Inv-loop μ-loop
 unfolding classOf
 returns c = rw (lt-ltb maxSmall (c .before .args .size) (omega arith))
-
-table-requires : tie.Need-table-requires Inv-loop μ-loop
-table-requires c κs = search needs
 
 loop-holds : tie.Need-loop-holds Inv-loop μ-loop
 loop-holds c = (search needs, below-none _)
@@ -53,7 +54,7 @@ returns-2 : tie.Need-returns-2 Inv-loop μ-loop
 unfolding classOf
 returns-2 c =
     let k = c .before .before .loop .k in
-    let size = c .before .before .before .before .before .args .size in
+    let size = start (c .before .before) .args .size in
     rw (
       le-ltb maxSmall size (omega arith),
       first-is rows (holds size) k
@@ -69,7 +70,7 @@ loop-less c = omega arith
 loop-again : tie.Need-loop-again Inv-loop μ-loop
 loop-again c =
     let k = c .before .before .loop .k in
-    let size = c .before .before .before .before .before .args .size in
+    let size = start (c .before .before) .args .size in
     let e = bytes-at _ (c .before .before .before .table .ensures) k (omega arith) in
     (omega arith, below-more (λ i. holds size i ≡ false) k (c .before .before .loop .inv .1) (lt-leb size (elementBytes (k + 1)) (omega arith)))
 
@@ -80,7 +81,7 @@ returns-3 : tie.Need-returns-3 Inv-loop μ-loop
 unfolding classOf
 returns-3 c =
     let k = c .before .loop .k in
-    let size = c .before .before .before .before .args .size in
+    let size = start (c .before) .args .size in
     rw (
       le-ltb maxSmall size (omega arith),
       first-is rows (holds size) k
@@ -90,20 +91,5 @@ returns-3 c =
 pub class-of-spec : {M : Type 1} → statement M
 class-of-spec =
     tie.close
-    (tie.spec
-    Inv-loop
-    μ-loop
-    returns
-    table-requires
-    loop-holds
-    mul-if2
-    element-copy-out-if2
-    cast-if2
-    mul-if2-2
-    add-result
-    returns-2
-    add-k
-    loop-less
-    loop-again
-    add-result-2
-    returns-3)
+    (tie.spec Inv-loop μ-loop returns (λ c κs. search needs) loop-holds mul-if2 element-copy-out-if2 cast-if2 mul-if2-2 add-result returns-2 add-k
+    loop-less loop-again add-result-2 returns-3)

@@ -11,6 +11,7 @@ use lib.ListN.{getD}
 use borrow.Author.Needs.{needs}
 use borrow.Author.Tests.{eqb-true}
 use Rattle.model.specs.Bounded.{_==_, allBelow, foldBelow}
+use Rattle.model.specs.Memory.{wordBits}
 use Rattle.model.specs.Bitmaps.{bitOf}
 use Rattle.model.proofs.Bounded.{all-at}
 use Rattle.model.proofs.Bitmaps.{bit-pow}
@@ -24,25 +25,19 @@ starting s j = cond (eqb (j % s) 0) 1 0
 -- the masks of the sizes below n, before those of a list
 masks : ℕ → List ℕ → List ℕ
 masks zero l = l
-masks (suc s) l = masks s (foldBelow 64 (λ j m. m + starting s j * 2 ^ j) 0 ∷ l)
+masks (suc s) l = masks s (foldBelow wordBits (λ j m. m + starting s j * 2 ^ j) 0 ∷ l)
 
-masks-tests : allBelow 64 (λ s. allBelow 64 (λ j. bitOf (getD (masks 64 []) s 0) j == starting s j)) ≡ true
+masks-tests : allBelow wordBits (λ s. allBelow wordBits (λ j. bitOf (getD (masks wordBits []) s 0) j == starting s j)) ≡ true
 unfolding masks starting allBelow foldBelow bitOf
 masks-tests = refl
 
-mask-at : (s : ℕ) → s < 64 → (j : ℕ) → j < 64 → bitOf (getD (masks 64 []) s 0) j ≡ cond (eqb (j % s) 0) 1 0
+mask-at : (s : ℕ) → s < wordBits → (j : ℕ) → j < wordBits → bitOf (getD (masks wordBits []) s 0) j ≡ cond (eqb (j % s) 0) 1 0
 unfolding starting
-mask-at s h j l = eqb-true _ _ (all-at 64 (λ j. bitOf (getD (masks 64 []) s 0) j == starting s j) (all-at 64 (λ s. allBelow 64 (λ j. bitOf (getD (masks 64 []) s 0) j == starting s j)) masks-tests s h) j l)
+mask-at s h j l = eqb-true _ _ (all-at wordBits (λ j. bitOf (getD (masks wordBits []) s 0) j == starting s j) (all-at wordBits (λ s. allBelow wordBits (λ j. bitOf (getD (masks wordBits []) s 0) j == starting s j)) masks-tests s h) j l)
 
 from-zero : (j : ℕ) → eqb 0 j ≡ eqb j 0
 from-zero zero = refl
 from-zero (suc j) = rw (eqb·zero-suc, eqb·suc-zero)
-
-mul-result : tie.Need-mul-result
-mul-result c = search needs
-
-array-read-result : tie.Need-array-read-result
-array-read-result c = search needs
 
 returns : tie.Need-returns
 unfolding masks starting foldBelow
@@ -54,4 +49,4 @@ returns-2 c j l =
     bit-pow 0 j ∙ rw (from-zero j, e)
 
 pub starts-spec : {M : Type 1} → statement M
-starts-spec = tie.close (tie.spec mul-result array-read-result returns returns-2)
+starts-spec = tie.close (tie.spec (λ c. search needs) (λ c. search needs) returns returns-2)

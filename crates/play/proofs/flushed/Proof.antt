@@ -10,11 +10,5 @@ use Rattle.play.proofs.flushed.Tie as tie
 slice-aggregate-write-all : tie.Need-slice-aggregate-write-all
 slice-aggregate-write-all c = sym (length-take-le (c .before .before .args .run .at) (now (c .before .before .args .out)) (omega arith))
 
-write-all-requires : tie.Need-write-all-requires
-write-all-requires c κs = search needs
-
-returns : tie.Need-returns
-returns c = search needs
-
 pub flushed-spec : {M : Type 1} → statement M
-flushed-spec = tie.close (tie.spec slice-aggregate-write-all write-all-requires returns)
+flushed-spec = tie.close (tie.spec slice-aggregate-write-all (λ c κs. search needs) (λ c. search needs))

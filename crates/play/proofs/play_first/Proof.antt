@@ -9,75 +9,28 @@ use borrow.Author.Needs.{needs}
 use Rattle.play.proofs.play_first.Statement.{statement}
 use Rattle.play.proofs.play_first.Tie as tie
 
-pages-requires : tie.Need-pages-requires
-pages-requires c κs = search needs
+-- the places in the code that the proof looks back to
+abbrev start : tie.After-first-line-arg → tie.Start
+start c = c .before .before .before .before .before .before .before .before
 
-mul-words : tie.Need-mul-words
-mul-words c = search needs
+abbrev start-at-slice-aggregate-first-line-2 : tie.After-first-line-arg2 → tie.Start
+start-at-slice-aggregate-first-line-2 c = start (c .before)
 
-mul-entries : tie.Need-mul-entries
-mul-entries c = search needs
-
-mul-marks : tie.Need-mul-marks
-mul-marks c = search needs
-
-slice-relend-prefix-first-line : tie.Need-slice-relend-prefix-first-line
-slice-relend-prefix-first-line c = search needs
+abbrev start-at-slice-aggregate-first-line-3 : tie.After-first-line-arg3 → tie.Start
+start-at-slice-aggregate-first-line-3 c = start-at-slice-aggregate-first-line-2 (c .before)
 
 slice-aggregate-first-line : tie.Need-slice-aggregate-first-line
-slice-aggregate-first-line c = sym (length-take-le (pageWords * (c .before .pages .result)) (now (c .before .before .before .before .before .before .before .before .args .arena)) (omega (arith, c .before .before .before .before .before .before .before .before .pre .0, c .before .pages .ensures .1)))
-
-slice-relend-prefix-first-line-2 : tie.Need-slice-relend-prefix-first-line-2
-slice-relend-prefix-first-line-2 c = search needs
+slice-aggregate-first-line c = sym (length-take-le (pageWords * (c .before .pages .result)) (now (start c .args .arena)) (omega (arith, start c .pre .0, c .before .pages .ensures .1)))
 
 slice-aggregate-first-line-2 : tie.Need-slice-aggregate-first-line-2
-slice-aggregate-first-line-2 c = sym (length-take-le (entryNumbers * (c .before .before .pages .result)) (now (c .before .before .before .before .before .before .before .before .before .args .table)) (omega (arith, c .before .before .before .before .before .before .before .before .before .pre .0, c .before .before .pages .ensures .1)))
-
-slice-relend-prefix-first-line-3 : tie.Need-slice-relend-prefix-first-line-3
-slice-relend-prefix-first-line-3 c = search needs
+slice-aggregate-first-line-2 c = sym (length-take-le (entryNumbers * (c .before .before .pages .result)) (now (start-at-slice-aggregate-first-line-2 c .args .table)) (omega (arith, start-at-slice-aggregate-first-line-2 c .pre .0, c .before .before .pages .ensures .1)))
 
 slice-aggregate-first-line-3 : tie.Need-slice-aggregate-first-line-3
-slice-aggregate-first-line-3 c = sym (length-take-le (bitmapWords * (c .before .before .before .pages .result)) (now (c .before .before .before .before .before .before .before .before .before .before .args .bits)) (omega (arith, c .before .before .before .before .before .before .before .before .before .before .pre .0, c .before .before .before .pages .ensures .1)))
-
-first-line-requires : tie.Need-first-line-requires
-first-line-requires c κs = search needs
-
-same-length : tie.Need-same-length
-same-length c = search needs
-
-same-length-2 : tie.Need-same-length-2
-same-length-2 c = search needs
-
-same-length-3 : tie.Need-same-length-3
-same-length-3 c = search needs
-
-same-length-4 : tie.Need-same-length-4
-same-length-4 c = search needs
-
-same-length-5 : tie.Need-same-length-5
-same-length-5 c = search needs
-
-returns : tie.Need-returns
-returns c = search needs
+slice-aggregate-first-line-3 c = sym (length-take-le (bitmapWords * (c .before .before .before .pages .result)) (now (start-at-slice-aggregate-first-line-3 c .args .bits)) (omega (arith, start-at-slice-aggregate-first-line-3 c .pre .0, c .before .before .before .pages .ensures .1)))
 
 pub play-first-spec : {M : Type 1} → statement M
 play-first-spec =
     tie.close
-    (tie.spec
-    pages-requires
-    mul-words
-    mul-entries
-    mul-marks
-    slice-relend-prefix-first-line
-    slice-aggregate-first-line
-    slice-relend-prefix-first-line-2
-    slice-aggregate-first-line-2
-    slice-relend-prefix-first-line-3
-    slice-aggregate-first-line-3
-    first-line-requires
-    same-length
-    same-length-2
-    same-length-3
-    same-length-4
-    same-length-5
-    returns)
+    (tie.spec (λ c κs. search needs) (λ c. search needs) (λ c. search needs) (λ c. search needs) (λ c. search needs) slice-aggregate-first-line
+    (λ c. search needs) slice-aggregate-first-line-2 (λ c. search needs) slice-aggregate-first-line-3 (λ c κs. search needs) (λ c. search needs)
+    (λ c. search needs) (λ c. search needs) (λ c. search needs) (λ c. search needs) (λ c. search needs))

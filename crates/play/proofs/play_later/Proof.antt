@@ -9,71 +9,28 @@ use borrow.Author.Needs.{needs}
 use Rattle.play.proofs.play_later.Statement.{statement}
 use Rattle.play.proofs.play_later.Tie as tie
 
-mul-words : tie.Need-mul-words
-mul-words c = search needs
+-- the places in the code that the proof looks back to
+abbrev start : tie.After-later-line-arg → tie.Start
+start c = c .before .before .before .before .before .before .before
 
-mul-entries : tie.Need-mul-entries
-mul-entries c = search needs
+abbrev start-at-slice-aggregate-later-line-2 : tie.After-later-line-arg2 → tie.Start
+start-at-slice-aggregate-later-line-2 c = start (c .before)
 
-mul-marks : tie.Need-mul-marks
-mul-marks c = search needs
-
-slice-relend-prefix-later-line : tie.Need-slice-relend-prefix-later-line
-slice-relend-prefix-later-line c = search needs
+abbrev start-at-slice-aggregate-later-line-3 : tie.After-later-line-arg3 → tie.Start
+start-at-slice-aggregate-later-line-3 c = start-at-slice-aggregate-later-line-2 (c .before)
 
 slice-aggregate-later-line : tie.Need-slice-aggregate-later-line
-slice-aggregate-later-line c = sym (length-take-le (pageWords * (c .before .before .before .before .before .before .before .args .p)) (now (c .before .before .before .before .before .before .before .args .arena)) (omega (arith, c .before .before .before .before .before .before .before .pre .0, c .before .before .before .before .before .before .before .pre .1 .0)))
-
-slice-relend-prefix-later-line-2 : tie.Need-slice-relend-prefix-later-line-2
-slice-relend-prefix-later-line-2 c = search needs
+slice-aggregate-later-line c = sym (length-take-le (pageWords * (start c .args .p)) (now (start c .args .arena)) (omega (arith, start c .pre .0, start c .pre .1 .0)))
 
 slice-aggregate-later-line-2 : tie.Need-slice-aggregate-later-line-2
-slice-aggregate-later-line-2 c = sym (length-take-le (entryNumbers * (c .before .before .before .before .before .before .before .before .args .p)) (now (c .before .before .before .before .before .before .before .before .args .table)) (omega (arith, c .before .before .before .before .before .before .before .before .pre .0, c .before .before .before .before .before .before .before .before .pre .1 .0)))
-
-slice-relend-prefix-later-line-3 : tie.Need-slice-relend-prefix-later-line-3
-slice-relend-prefix-later-line-3 c = search needs
+slice-aggregate-later-line-2 c = sym (length-take-le (entryNumbers * (start-at-slice-aggregate-later-line-2 c .args .p)) (now (start-at-slice-aggregate-later-line-2 c .args .table)) (omega (arith, start-at-slice-aggregate-later-line-2 c .pre .0, start-at-slice-aggregate-later-line-2 c .pre .1 .0)))
 
 slice-aggregate-later-line-3 : tie.Need-slice-aggregate-later-line-3
-slice-aggregate-later-line-3 c = sym (length-take-le (bitmapWords * (c .before .before .before .before .before .before .before .before .before .args .p)) (now (c .before .before .before .before .before .before .before .before .before .args .bits)) (omega (arith, c .before .before .before .before .before .before .before .before .before .pre .0, c .before .before .before .before .before .before .before .before .before .pre .1 .0)))
-
-later-line-requires : tie.Need-later-line-requires
-later-line-requires c κs = search needs
-
-same-length : tie.Need-same-length
-same-length c = search needs
-
-same-length-2 : tie.Need-same-length-2
-same-length-2 c = search needs
-
-same-length-3 : tie.Need-same-length-3
-same-length-3 c = search needs
-
-same-length-4 : tie.Need-same-length-4
-same-length-4 c = search needs
-
-same-length-5 : tie.Need-same-length-5
-same-length-5 c = search needs
-
-returns : tie.Need-returns
-returns c = search needs
+slice-aggregate-later-line-3 c = sym (length-take-le (bitmapWords * (start-at-slice-aggregate-later-line-3 c .args .p)) (now (start-at-slice-aggregate-later-line-3 c .args .bits)) (omega (arith, start-at-slice-aggregate-later-line-3 c .pre .0, start-at-slice-aggregate-later-line-3 c .pre .1 .0)))
 
 pub play-later-spec : {M : Type 1} → statement M
 play-later-spec =
     tie.close
-    (tie.spec
-    mul-words
-    mul-entries
-    mul-marks
-    slice-relend-prefix-later-line
-    slice-aggregate-later-line
-    slice-relend-prefix-later-line-2
-    slice-aggregate-later-line-2
-    slice-relend-prefix-later-line-3
-    slice-aggregate-later-line-3
-    later-line-requires
-    same-length
-    same-length-2
-    same-length-3
-    same-length-4
-    same-length-5
-    returns)
+    (tie.spec (λ c. search needs) (λ c. search needs) (λ c. search needs) (λ c. search needs) slice-aggregate-later-line (λ c. search needs)
+    slice-aggregate-later-line-2 (λ c. search needs) slice-aggregate-later-line-3 (λ c κs. search needs) (λ c. search needs) (λ c. search needs)
+    (λ c. search needs) (λ c. search needs) (λ c. search needs) (λ c. search needs))

@@ -6,9 +6,6 @@ use borrow.Author.Needs.{needs}
 use Rattle.root_checks.proofs.global_refusal.Statement.{statement}
 use Rattle.root_checks.proofs.global_refusal.Tie as tie
 
-slot-refusal-requires : tie.Need-slot-refusal-requires
-slot-refusal-requires c κs = search needs
-
 returns : tie.Need-returns
 unfolding _given_ _orElse_
 returns c = λ p a t b. rw (global-chain _ _ _ _, ← c .before .slot-refusal .ensures p a t b, ne-eqb _ _ (c .if1 .taken))
@@ -22,4 +19,4 @@ unfolding _given_ _orElse_
 returns-3 c = λ p a t b. rw (global-chain _ _ _ _, ← c .before .before .slot-refusal .ensures p a t b, eq-eqb _ _ (c .before .if1 .left), lt-leb _ _ (c .if2 .left))
 
 pub global-refusal-spec : {M : Type 1} → statement M
-global-refusal-spec = tie.close (tie.spec slot-refusal-requires returns returns-2 returns-3)
+global-refusal-spec = tie.close (tie.spec (λ c κs. search needs) returns returns-2 returns-3)

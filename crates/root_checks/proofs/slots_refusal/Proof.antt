@@ -1,25 +1,18 @@
--- Each way out is one test of the chain.
-use borrow.Author.Tests.{eq-eqb, ne-eqb, le-leb, lt-leb}
-use Rattle.model.specs.Answers.{_given_, _orElse_}
+-- The stack and the first slot, then the second slot's number.
+use borrow.Author.Tests.{eq-eqb, ne-eqb}
+use Rattle.model.specs.Answers.{_orElse_}
 use Rattle.root_checks.proofs.Passed.{slots-chain}
 use borrow.Author.Needs.{needs}
 use Rattle.root_checks.proofs.slots_refusal.Statement.{statement}
 use Rattle.root_checks.proofs.slots_refusal.Tie as tie
 
-slot-refusal-requires : tie.Need-slot-refusal-requires
-slot-refusal-requires c κs = search needs
-
 returns : tie.Need-returns
-unfolding _given_ _orElse_
-returns c = λ p a t b. rw (slots-chain _ _ _ _, ← c .before .slot-refusal .ensures p a t b, ne-eqb _ _ (c .if1 .taken))
+unfolding _orElse_
+returns c = λ p a t b. rw (slots-chain _ _ _ _, ← c .before .before .slot-refusal .ensures p a t b, ne-eqb _ _ (c .if1 .taken))
 
 returns-2 : tie.Need-returns-2
-unfolding _given_ _orElse_
-returns-2 c = λ p a t b. rw (slots-chain _ _ _ _, ← c .before .before .slot-refusal .ensures p a t b, eq-eqb _ _ (c .before .if1 .left), le-leb _ _ (c .if2 .taken))
-
-returns-3 : tie.Need-returns-3
-unfolding _given_ _orElse_
-returns-3 c = λ p a t b. rw (slots-chain _ _ _ _, ← c .before .before .slot-refusal .ensures p a t b, eq-eqb _ _ (c .before .if1 .left), lt-leb _ _ (c .if2 .left))
+unfolding _orElse_
+returns-2 c = λ p a t b. rw (slots-chain _ _ _ _, ← c .before .before .slot-refusal .ensures p a t b, eq-eqb _ _ (c .if1 .left)) (c .before .no-slot .ensures)
 
 pub slots-refusal-spec : {M : Type 1} → statement M
-slots-refusal-spec = tie.close (tie.spec slot-refusal-requires returns returns-2 returns-3)
+slots-refusal-spec = tie.close (tie.spec (λ c κs. search needs) (λ c κs. search needs) returns returns-2)

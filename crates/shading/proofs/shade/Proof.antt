@@ -1,88 +1,75 @@
 -- Each way out is one of the four cases of shading: nil, marked, noscan, scan.
+use mathlib.Core.Logic.{_≢_}
 use mathlib.Core.Path.{sym, _∙_}
 use native.Mathlib.Omega.{arith}
-use borrow.Author.Tests.{not-true, not-false}
+use denote.Ref.{now}
+use borrow.Author.Tests.{eqb-true, eqb-false, not-true, not-false}
+use Rattle.model.specs.Memory.{nil}
+use Rattle.shading.specs.Needs.{NamesRecord}
 use Rattle.shading.proofs.Shades.{nil-shades, marked-shades, noscan-shades, scan-shades}
 use borrow.Author.Needs.{needs}
 use Rattle.shading.proofs.shade.Statement.{statement}
 use Rattle.shading.proofs.shade.Tie as tie
 
+-- the places in the code, each from a later one: the entry, the value's word known, its record known to be white, its span read, the span known to be
+-- scan
+abbrev start : tie.After-word → tie.Start
+start c = c .before .before .before .before .before
+
+abbrev word : tie.Else2 → tie.After-word
+word c = c .before .before .before
+
+abbrev white : tie.After-span-with-word → tie.Else2
+white c = c .before .before .before .before .before
+
+abbrev scan : tie.After-slice-known3 → tie.Else3
+scan c = c .before .before .before .before
+
+not-nil : (c : tie.After-word) → start c .args .v .0 ≢ nil
+not-nil c = eqb-false _ _ (sym (c .before .before .is-nil .ensures) ∙ c .before .if1 .left)
+
+named : (c : tie.After-word) → let a = start c .args in NamesRecord (a .p) (now (a .table)) (a .v .0)
+named c = start c .pre .named (not-nil c)
+
 returns : tie.Need-returns
-returns c = nil-shades _ _ _ _ (c .if1 .taken)
-
-word-requires : tie.Need-word-requires
-word-requires c κs = search needs
-
-mul-words : tie.Need-mul-words
-mul-words c = search needs
-
-add-test : tie.Need-add-test
-add-test c = search needs
+returns c = nil-shades _ _ _ _ (eqb-true _ _ (sym (c .before .is-nil .ensures) ∙ c .if1 .taken))
 
 test-requires : tie.Need-test-requires
-test-requires c κs = omega (arith, c .before .before .before .before .before .pre .named (c .before .before .if1 .left), c .before .before .before .before .before .pre)
-
-same-length : tie.Need-same-length
-same-length c = search needs
+test-requires c κs = omega (arith, named (c .before), start (c .before) .pre)
 
 returns-2 : tie.Need-returns-2
-returns-2 c = marked-shades _ _ _ _ (c .before .before .before .before .before .before .before .pre .named (c .before .before .before .before .if1 .left)) (c .before .before .before .word .ensures) (sym (c .before .test .ensures) ∙ c .if2 .taken)
-
-add-set : tie.Need-add-set
-add-set c = search needs
+returns-2 c =
+    let d = c .before .before .before in
+    marked-shades _ _ _ _ (named d) (d .word .ensures) (sym (c .before .test .ensures) ∙ c .if2 .taken)
 
 set-requires : tie.Need-set-requires
-set-requires c κs = omega (arith, c .before .before .before .before .before .before .before .before .pre .named (c .before .before .before .before .before .if1 .left), c .before .before .before .before .before .before .before .before .pre)
+set-requires c κs = let d = word (c .before) in omega (arith, named d, start d .pre)
 
-in-scan-span-requires : tie.Need-in-scan-span-requires
-in-scan-span-requires c κs =
-    let n = c .before .before .before .before .before .before .before .before .before .before .before .pre .named (c .before .before .before .before .before .before .before .before .if1 .left) in
-    let e = c .before .before .before .before .before .before .before .word .ensures in
-    record { page = omega (arith, c .before .before .before .before .before .before .before .before .before .before .before .pre); span = rw e (omega (arith, n .span, c .before .before .before .before .before .before .before .before .before .before .before .pre)) }
-
-same-length-2 : tie.Need-same-length-2
-same-length-2 c = search needs
+span-with-word-requires : tie.Need-span-with-word-requires
+span-with-word-requires c κs =
+    let d = word (c .before .before .before .before) in
+    record { page = omega (arith, d .word .ensures, named d .word, start d .pre); span = rw (d .word .ensures) (omega (arith, named d .span, start d .pre)) }
 
 returns-3 : tie.Need-returns-3
 returns-3 c =
-    noscan-shades _ _ _ _ (c .before .before .before .before .before .before .before .before .before .before .before .before .before .pre .named (c .before .before .before .before .before .before .before .before .before .before .if1 .left)) (c .before .before .before .before .before .before .before .before .before .word .ensures) (c .before .before .before .before .before .before .before .before .before .before .if1 .left) (sym (c .before .before .before .before .before .before .before .test .ensures) ∙ c .before .before .before .before .before .before .if2 .left)
-    (sym (c .before .in-scan-span .ensures) ∙ not-true _ (c .if3 .taken)) (c .before .before .before .before .set .ensures)
-
-mul-set : tie.Need-mul-set
-mul-set c = search needs
-
-add-set-2 : tie.Need-add-set-2
-add-set-2 c = search needs
+    let s = c .before in
+    let d = word (white s) in
+    noscan-shades _ _ _ _ (named d) (d .word .ensures) (not-nil d) (sym (white s .before .test .ensures) ∙ white s .if2 .left)
+    (sym (s .span-with-word .ensures .scan) ∙ not-true _ (c .if3 .taken)) (s .before .before .before .set .ensures)
 
 set-requires-2 : tie.Need-set-requires-2
-set-requires-2 c κs = omega (arith, c .before .before .before .before .before .before .before .before .before .before .before .before .before .before .pre .named (c .before .before .before .before .before .before .before .before .before .before .before .if1 .left), c .before .before .before .before .before .before .before .before .before .before .before .before .before .before .pre)
-
-same-length-3 : tie.Need-same-length-3
-same-length-3 c = search needs
+set-requires-2 c κs = let d = word (white (c .before .before)) in omega (arith, named d, start d .pre)
 
 returns-4 : tie.Need-returns-4
 returns-4 c =
-    scan-shades _ _ _ _ (c .before .before .before .before .before .before .before .before .before .before .before .before .before .before .before .before .before .pre .named (c .before .before .before .before .before .before .before .before .before .before .before .before .before .before .if1 .left)) (c .before .before .before .before .before .before .before .before .before .before .before .before .before .word .ensures) (c .before .before .before .before .before .before .before .before .before .before .before .before .before .before .if1 .left) (sym (c .before .before .before .before .before .before .before .before .before .before .before .test .ensures) ∙ c .before .before .before .before .before .before .before .before .before .before .if2 .left)
-    (sym (c .before .before .before .before .before .in-scan-span .ensures) ∙ not-false _ (c .before .before .before .before .if3 .left)) (c .before .before .before .before .before .before .before .before .set .ensures) (c .before .before .set2 .ensures)
+    let s = scan c .before in
+    let d = word (white s) in
+    scan-shades _ _ _ _ (named d) (d .word .ensures) (not-nil d) (sym (white s .before .test .ensures) ∙ white s .if2 .left)
+    (sym (s .span-with-word .ensures .scan) ∙ not-false _ (scan c .if3 .left)) (s .before .before .before .set .ensures) (c .before .before .set2 .ensures)
 
 pub shade-spec : {M : Type 1} → statement M
 shade-spec =
     tie.close
-    (tie.spec
-    returns
-    word-requires
-    mul-words
-    add-test
-    test-requires
-    same-length
-    returns-2
-    add-set
-    set-requires
-    in-scan-span-requires
-    same-length-2
-    returns-3
-    mul-set
-    add-set-2
-    set-requires-2
-    same-length-3
-    returns-4)
+    (tie.spec (λ c κs. search needs) returns (λ c κs. search needs) (λ c. search needs) (λ c. search needs) (λ c. search needs) test-requires
+    (λ c. search needs) returns-2 set-requires span-with-word-requires (λ c. search needs) returns-3 (λ c. search needs) (λ c. search needs)
+    set-requires-2 (λ c. search needs) returns-4)

@@ -1,8 +1,8 @@
 //! Measures the proved heap against the plain one: the time of each of the
 //! nineteen calls on 1, 8 and 256 pages, empty, half full and full of small
-//! scan records, as a ratio. Both sides take turns in one run, each on its own
-//! copy of the heap; what a call changes is undone outside of the time. The
-//! tables are printed as they stand in docs/PERFORMANCE.md.
+//! scan records, as a ratio. Both sides take turns in one run, on the same
+//! memory; what a call changes is undone outside of the time. The tables are
+//! printed as they stand in docs/PERFORMANCE.md.
 
 use std::hint::black_box;
 use std::process::ExitCode;
@@ -183,20 +183,19 @@ fn prepare((name, call, state): Case, pages: u64, fill: Fill) -> Prepared {
     Prepared { pages, call, memory: before, answer, undo }
 }
 
-/// One of the two sides, with its copy of the heap.
+/// One of the two sides.
 struct Side<'a> {
     heap: Heap,
     prepared: &'a Prepared,
-    memory: Memory,
 }
 
 impl Side<'_> {
     fn new(heap: Heap, prepared: &Prepared) -> Side<'_> {
-        Side { heap, prepared, memory: prepared.memory.clone() }
+        Side { heap, prepared }
     }
 
-    /// Nanoseconds of a call, of so many in a row.
-    fn turn(&mut self, calls: usize, clock: f64) -> f64 {
+    /// Nanoseconds of a call, of so many in a row, on memory that is left as it was.
+    fn turn(&self, memory: &mut Memory, calls: usize, clock: f64) -> f64 {
         let lengths = lengths(self.prepared.pages);
         let (mut time, mut left) = (0.0, calls);
         while left > 0 {
@@ -204,15 +203,16 @@ impl Side<'_> {
             let begin = Instant::now();
             for _ in 0..at_once {
                 let call = black_box(&self.prepared.call);
-                let answer = black_box((self.heap)(call, self.memory.lend(lengths)));
+                let answer = black_box((self.heap)(call, memory.lend(lengths)));
                 assert!(answer == self.prepared.answer, "{call:?}: {answer:?}");
             }
             time += (begin.elapsed().as_nanos() as f64 - clock).max(0.0);
             for &(place, value) in &self.prepared.undo {
-                self.memory.set(place, value);
+                memory.set(place, value);
             }
             left -= at_once;
         }
+        assert!(*memory == self.prepared.memory, "{:?} changed another word", self.prepared.call);
         time / calls as f64
     }
 }
@@ -241,21 +241,26 @@ struct Settings {
     clock: f64,
 }
 
+/// Both sides by turns on the same memory, so that where it lies is the same for both.
 fn measure(prepared: &Prepared, settings: &Settings) -> Measured {
-    let mut plain = Side::new(apply, prepared);
-    let mut proved = Side::new(proved_apply, prepared);
-    let first = plain.turn(3, settings.clock).max(1.0);
-    proved.turn(3, settings.clock);
+    let (plain, proved) = (Side::new(apply, prepared), Side::new(proved_apply, prepared));
+    let mut memory = prepared.memory.clone();
+    let first = plain.turn(&mut memory, 3, settings.clock).max(1.0);
+    proved.turn(&mut memory, 3, settings.clock);
     let calls = ((settings.block / first) as usize).clamp(1, MAX_BLOCK_CALLS);
     let (mut ratios, mut times) = (Vec::new(), Vec::new());
     for round in 0..settings.rounds {
-        let time = if round % 2 == 0 { plain.turn(calls, settings.clock) } else { 0.0 };
-        let proved_time = proved.turn(calls, settings.clock);
-        let time = if round % 2 == 0 { time } else { plain.turn(calls, settings.clock) };
+        let mut turn = |side: &Side| side.turn(&mut memory, calls, settings.clock);
+        let (time, proved_time) = if round % 2 == 0 {
+            let time = turn(&plain);
+            (time, turn(&proved))
+        } else {
+            let proved_time = turn(&proved);
+            (turn(&plain), proved_time)
+        };
         ratios.push(proved_time / time.max(1.0));
         times.push(time);
     }
-    assert!(plain.memory == proved.memory, "{:?} left different heaps", prepared.call);
     Measured { ratio: median(ratios), plain: median(times) }
 }
 

@@ -1,0 +1,75 @@
+// The search for a free element: the lowest of the lowest swept span of a kind that has one, by the
+// page table and the bitmaps.
+ghost use mathlib.Core.Bool.{false};
+ghost use mathlib.Core.Path.{_≡_};
+ghost use mathlib.Core.List.{List};
+ghost use Prim.Native.Nat.{ℕ, _<_};
+ghost use Rattle.model.specs.Memory.{lent};
+ghost use Rattle.model.specs.Lent.{Mapped};
+ghost use Rattle.element_search.specs.Free.{FreeIn, FreeOf};
+use units::Page;
+use units::Word;
+
+// A free element: whether there is one, and its first word.
+pub struct Free {
+    pub found: bool,
+    pub word: Word,
+}
+
+// No element.
+fn nothing() -> Free
+    ensures { λ r. ⌜ r .found ≡ false ⌝ }
+{
+    Free {
+        found: false,
+        word: Word(0),
+    }
+}
+
+// The lowest free element of a swept span of the kind, if one starts at page s. It does not depend on
+// the arena and the roots.
+fn free_in(p: usize, table: &[u32], bits: &[u64], kind: usize, s: Page) -> Free
+    requires { ⌜ Mapped p (now table) (now bits) × (s .0 < p) ⌝ }
+    ensures { λ r. ⌜
+        ((a o : List ℕ) → FreeIn (lent p a (now (table .entry)) (now (bits .entry)) o) kind (s .0) r) ⌝ }
+{
+    if !page_table::starts_span(table, s) {
+        return nothing();
+    }
+    let span = page_table::span_at(table, s);
+    let entry = span.entry;
+    if entry != kind {
+        return nothing();
+    }
+    let elements = classes::layout_of(span.class, span.pages);
+    let size = elements.words;
+    let count = elements.count;
+    let first = s.first_word().0;
+    let k = bitmap::first_free(bits, first, size, count, classes::starts(size));
+    if count <= k {
+        return nothing();
+    }
+    let at = first + k * size;
+    Free {
+        found: true,
+        word: Word(at),
+    }
+}
+
+// The lowest free element of the lowest swept span of the kind that has one. It does not depend on
+// the arena and the roots.
+pub fn free_of(p: usize, table: &[u32], bits: &[u64], kind: usize) -> Free
+    requires { ⌜ Mapped p (now table) (now bits) ⌝ }
+    ensures { λ r. ⌜ ((a o : List ℕ) → FreeOf (lent p a (now (table .entry)) (now (bits .entry)) o) kind r) ⌝ }
+{
+    let mut s = 0;
+    while s < p {
+        let at = s;
+        s += 1;
+        let free = free_in(p, table, bits, kind, Page(at));
+        if free.found {
+            return free;
+        }
+    }
+    nothing()
+}

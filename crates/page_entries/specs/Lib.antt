@@ -1,0 +1,3 @@
+pub mod Needs
+pub mod Kinds
+pub mod Unswept

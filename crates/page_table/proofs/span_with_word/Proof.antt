@@ -1,0 +1,15 @@
+use borrow.Author.Needs.{needs}
+use Rattle.page_table.proofs.span_with_word.Statement.{statement}
+use Rattle.page_table.proofs.span_with_word.Tie as tie
+
+span-of-page-requires : tie.Need-span-of-page-requires
+span-of-page-requires c κs = rw (c .page .ensures) (c .before .before .pre .page)
+
+span-at-requires : tie.Need-span-at-requires
+span-at-requires c κs = let k = c .before in rw (c .span-of-page .ensures, k .page .ensures) (k .before .before .pre .span)
+
+returns : tie.Need-returns
+returns c = let k = c .before in rw (← k .before .page .ensures, ← k .span-of-page .ensures) (c .span-at .ensures)
+
+pub span-with-word-spec : {M : Type 1} → statement M
+span-with-word-spec = tie.close (tie.spec (λ c κs. search needs) span-of-page-requires span-at-requires returns)
