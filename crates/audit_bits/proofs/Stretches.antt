@@ -21,8 +21,8 @@ use Rattle.page_table.specs.Span.{Reads}
 use Rattle.page_table.specs.declared.Span.{Span}
 use Rattle.audit_pages.specs.Stretch.{stretch}
 use Rattle.audit_bits.specs.Needs.{Phased, Fits}
-use Rattle.audit_bits.specs.Rules.{bare, spanRule}
-use Rattle.audit_bits.specs.Words.{WordBits, GoodWords, GoodBits, Used, SetBetween, PassedBits}
+use Rattle.audit_bits.specs.Rules.{bare, spanRule, KeepsRules}
+use Rattle.audit_bits.specs.Words.{WordBits, GoodWords, GoodBits, GoodStretch, Used, SetBetween}
 use Rattle.audit_bits.proofs.SpanWords.{ruleAt, span-words, words-span, bare-word, word-bare}
 
 -- the span at page s, as its entry describes it: it lies in the arena, its elements in it, and its rules are those of its words
@@ -159,37 +159,13 @@ pub set-found : (b : List ℕ) (from to first last r : ℕ) → first ≡ from �
     T (ltb r last) ↔ SetBetween b from to
 set-found b from to first last r p q l e = rw q (set-first b from to r l (rw (p, q) at e))
 
--- a step of the pass
-module _ (P phase : ℕ) (t b : List ℕ) (g : ℕ) where
-  fault : (((w : ℕ) → WordBits P phase t b w) → Used P t b g → ⊥) → PassedBits P phase t b g 0
-  fault f = record { pages = λ z. absurd (z refl); words = λ z. absurd (z refl); used = λ z. absurd (z refl); fault = λ _. f }
+-- a free page without bits is as it should be, and a span that keeps its rules; and back
+pub free-stretch : {P phase : ℕ} {t b : List ℕ} {g : ℕ} → owner t g ≡ 0 → GoodWords P phase t b (pageWords * g) (pageWords * (g + stretch t g)) → GoodStretch P phase t b g
+free-stretch e W = record { words = W; used = λ i. absurd (omega arith) }
 
-  step : {n : ℕ} → 0 < n → n ≡ stretch t g → GoodWords P phase t b (pageWords * g) (pageWords * (g + stretch t g)) → Used P t b g → PassedBits P phase t b g n
-  step l e W U = record { pages = λ _. e; words = λ _. W; used = λ _. U; fault = λ z. absurd (omega arith) }
+module _ {P phase : ℕ} {t b : List ℕ} {g : ℕ} {x : Span} (R : Reads t g x) (F : Spans P t) (legal : phase ≤ sweep) (i : IsSpan t g) where
+  pub kept-stretch : KeepsRules P phase b x → GoodStretch P phase t b g
+  kept-stretch K = record { words = span-good R F legal i _ refl .0 (K .0); used = set-used F b g i (rw (R .start, R .pages) at (K .1)) }
 
-  -- at a free page
-  module _ (e : owner t g ≡ 0) (r : Bool) (p : r ≡ allBelow pageWords (λ o. bare P b (pageWords * g + o))) where
-    pub dirty-page : not r ≡ true → PassedBits P phase t b g 0
-    dirty-page q = fault (λ A _. no r (free-words g e r p) q (λ w _ _. A w))
-
-    pub free-page : not r ≡ false → PassedBits P phase t b g 1
-    free-page q = step (omega arith) (rw e) (yes r (free-words g e r p) q) (λ i. absurd (omega arith))
-
-  -- at the first of a span
-  module _ {x : Span} (R : Reads t g x) (F : Spans P t) (legal : phase ≤ sweep) (i : IsSpan t g) (r : Bool) (p : r ≡ allBelow (64 * (pageBlocks * x .pages)) (spanRule P phase b x)) where
-    good : T r ↔ GoodWords P phase t b (pageWords * g) (pageWords * (g + stretch t g))
-    good = span-good R F legal i r p
-
-    pub bad-span : not r ≡ true → PassedBits P phase t b g 0
-    bad-span q = fault (λ A _. no r good q (λ w _ _. A w))
-
-    module _ (o : Bool) (s : T o ↔ SetBetween b (pageWords * x .start .0) (pageWords * (x .start .0 + x .pages))) where
-      set : T o ↔ SetBetween b (pageWords * g) (pageWords * (g + pageCount t g))
-      set = rw (R .start, R .pages) at s
-
-      pub empty-span : not o ≡ true → PassedBits P phase t b g 0
-      empty-span q = fault (λ A U. no o set q (used-set F b A g i U))
-
-      pub good-span : not r ≡ false → not o ≡ false → PassedBits P phase t b g (x .pages)
-      good-span q u =
-          step (rw (R .pages) (fits F g i .pages)) (rw (ne-eqb (owner t g) 0 (omega arith)) (R .pages)) (yes r good q) (set-used F b g i (yes o set u))
+  pub stretch-kept : ((w : ℕ) → WordBits P phase t b w) → Used P t b g → KeepsRules P phase b x
+  stretch-kept A U = (span-good R F legal i _ refl .1 (λ w _ _. A w), rw (R .start, R .pages) (used-set F b A g i U))

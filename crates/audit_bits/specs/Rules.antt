@@ -3,14 +3,16 @@
 use Prim.Native.Nat.{ℕ, _+_, _-_, _*_, _%_}
 use mathlib.Core.Bool.{Bool, _&&_, _||_, not, cond}
 use mathlib.Core.List.{List}
-use Rattle.model.specs.Bounded.{_==_, _<?_, _≤?_, _implies_}
-use Rattle.model.specs.Memory.{firstWord, wordBits, mark, sweep}
+use lib.Dec.{T}
+use Rattle.model.specs.Bounded.{_==_, _<?_, _≤?_, _implies_, allBelow}
+use Rattle.model.specs.Memory.{firstWord, wordBits, pageBlocks, mark, sweep}
 use Rattle.model.specs.Bitmaps.{allocated, marked, gray, pointer}
 use Rattle.model.specs.Classes.{elementWordsOf, elementsOf}
 use Rattle.model.specs.Facts.{bit}
 use Rattle.page_table.specs.declared.Span.{Span}
 use Rattle.audit_blocks.specs.Block.{on}
 use Rattle.audit_bits.specs.declared.Allowed.{Allowed}
+use Rattle.audit_bits.specs.Words.{SetBetween}
 
 -- word w has no bit in any part
 unfoldable pub bare : ℕ → List ℕ → ℕ → Bool
@@ -50,3 +52,8 @@ abbrev pub spanRule : ℕ → ℕ → List ℕ → Span → ℕ → Bool
 spanRule P phase b r =
     wordRule P b (firstWord (r .start .0)) (elementWordsOf (r .class) (r .pages)) (elementsOf (r .class) * elementWordsOf (r .class) (r .pages))
     (allowedIn phase (r .scan) (r .unswept))
+
+-- all words of a span keep them, and it has an allocated element: allocated bits stand at the words' own numbers
+abbrev pub KeepsRules : ℕ → ℕ → List ℕ → Span → Type 0
+KeepsRules P phase b r =
+    T (allBelow (wordBits * (pageBlocks * r .pages)) (spanRule P phase b r)) × SetBetween b (firstWord (r .start .0)) (firstWord (r .start .0 + r .pages))

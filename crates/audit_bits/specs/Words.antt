@@ -31,13 +31,10 @@ Used P t b s = IsSpan t s → (w : ℕ) × T (bit P allocated b w) × (spanOf t 
 abbrev pub SetBetween : List ℕ → ℕ → ℕ → Type 0
 SetBetween b from to = (w : ℕ) × (from ≤ w) × (w < to) × T (bitAt b w)
 
--- at page g, which is free or the first of a span, n pages are passed: their words have the bits that the audit allows, and a span an allocated one;
--- 0 is a fault
-pub record PassedBits (P phase : ℕ) (t b : List ℕ) (g n : ℕ) : Type 0 where
-  pub pages : n ≢ 0 → n ≡ stretch t g
-  pub words : n ≢ 0 → GoodWords P phase t b (firstWord g) (firstWord (g + stretch t g))
-  pub used : n ≢ 0 → Used P t b g
-  pub fault : n ≡ 0 → ((w : ℕ) → WordBits P phase t b w) → Used P t b g → ⊥
+-- the words of page g, a free one, or of the span that starts there have the bits that the audit allows, and a span an allocated one
+pub record GoodStretch (P phase : ℕ) (t b : List ℕ) (g : ℕ) : Type 0 where
+  pub words : GoodWords P phase t b (firstWord g) (firstWord (g + stretch t g))
+  pub used : Used P t b g
 
 -- the audit's clauses about bits
 pub record GoodBits (P phase : ℕ) (t b : List ℕ) : Type 0 where

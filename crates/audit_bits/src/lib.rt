@@ -11,10 +11,9 @@ ghost use Rattle.model.specs.Bounded.{_==_, _<?_, _≤?_, allBelow};
 ghost use Rattle.model.specs.Memory.{mark, pageWords, pageBlocks, wordBits, firstWord};
 ghost use Rattle.model.specs.Lent.{Bitmaps, Mapped};
 ghost use Rattle.audit_blocks.specs.Block.{on};
-ghost use Rattle.audit_pages.specs.Stretch.{Begins};
-ghost use Rattle.audit_bits.specs.Words.{GoodBits, SetBetween, PassedBits};
+ghost use Rattle.audit_bits.specs.Words.{GoodBits, SetBetween};
 ghost use Rattle.audit_bits.specs.Needs.{Phased, SpanInside, Fits};
-ghost use Rattle.audit_bits.specs.Rules.{bare, blockRule, wordRule, marksStand, spanRule};
+ghost use Rattle.audit_bits.specs.Rules.{bare, blockRule, wordRule, marksStand, spanRule, KeepsRules};
 use audit_blocks::colours_ok;
 use audit_blocks::pointers_ok;
 use bitmap::first_set;
@@ -244,26 +243,15 @@ fn occupied(p: usize, bits: &[u64], span: Span) -> bool
     first_set(bits, from, to) < to
 }
 
-// How many pages there are to pass at page g: one free page without bits, or a whole span whose bits
-// keep the rules and which has an allocated element. 0 is a fault.
-fn passed(p: usize, table: &[u32], bits: &[u64], phase: u64, g: Page) -> usize
-    requires { ⌜ Mapped p (now table) (now bits) × Phased phase (now table) × Begins p (now table) (g .0) ⌝ }
-    ensures { λ r. ⌜ PassedBits p phase (now (table .entry)) (now (bits .entry)) (g .0) r ⌝ }
+// The bits of the span keep the rules, and it has an allocated element.
+fn span_ok(p: usize, bits: &[u64], phase: u64, span: Span) -> bool
+    requires { ⌜ Bitmaps p (now bits) × Fits p span ⌝ }
+    ensures { λ r. ⌜ T r ↔ KeepsRules p phase (now (bits .entry)) span ⌝ }
 {
-    if owner(table, g) == 0 {
-        if !free_page_ok(p, bits, g) {
-            return 0;
-        }
-        return 1;
-    }
-    let span = span_at(table, g);
     if !span_bits_ok(p, bits, phase, span) {
-        return 0;
+        return false;
     }
-    if !occupied(p, bits, span) {
-        return 0;
-    }
-    span.pages
+    occupied(p, bits, span)
 }
 
 // The audit's clauses about bits, also where they depend on the phase, and each span has an allocated
@@ -274,10 +262,18 @@ pub fn bits_ok(p: usize, table: &[u32], bits: &[u64], phase: u64) -> bool
 {
     let mut g = 0;
     while g < p {
-        let n = passed(p, table, bits, phase, Page(g));
-        g += n;
-        if n == 0 {
-            return false;
+        let at = Page(g);
+        if owner(table, at) == 0 {
+            g += 1;
+            if !free_page_ok(p, bits, at) {
+                return false;
+            }
+        } else {
+            let span = span_at(table, at);
+            g += span.pages;
+            if !span_ok(p, bits, phase, span) {
+                return false;
+            }
         }
     }
     true

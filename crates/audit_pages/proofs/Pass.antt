@@ -19,7 +19,7 @@ use Rattle.model.proofs.Spans.{entry-fits}
 use Rattle.model.proofs.Answers.{no}
 use Rattle.page_table.specs.Span.{Reads}
 use Rattle.page_table.specs.declared.Span.{Span}
-use Rattle.audit_pages.specs.Pass.{GoodPages, BareEntry, Further, Body, GoodSpan, PassedPages}
+use Rattle.audit_pages.specs.Pass.{GoodPages, BareEntry, Further, Body, GoodSpan}
 
 -- the entry of a span's first page: of a class with a page count of its own, of class 0
 module _ (entry class count : ℕ) (e : class ≡ entry % unsweptFlag / 2) (f : entry < unsweptFlag + unsweptFlag) (k : class ≤ rows) where
@@ -76,22 +76,6 @@ module _ (p ph : ℕ) (t : List ℕ) {s : ℕ} {r : Span} (R : Reads t s r) wher
   pub own-span : (b : Bool) → T b ↔ GoodSpan p ph t (r .start .0) → T b ↔ GoodSpan p ph t s
   own-span b f = rw (R .start) at f
 
--- a step at a free page
-module _ (p ph : ℕ) (t : List ℕ) (g : ℕ) (o : owner t g ≡ 0) where
-  pub dirty-page : (BareEntry t g → ⊥) → PassedPages p ph t g 0
-  dirty-page d = record { free = λ z. absurd (z refl); span = λ z. absurd (z refl); dirty = λ _ _. d; bad = λ _ z. absurd (omega arith) }
-
-  pub free-page : BareEntry t g → PassedPages p ph t g 1
-  free-page x = record { free = λ _ _. (refl, x); span = λ _ z. absurd (z o); dirty = λ z. absurd (omega arith); bad = λ z. absurd (omega arith) }
-
--- a step at a page that starts a span
-module _ (p ph : ℕ) (t : List ℕ) (g : ℕ) (o : owner t g ≡ g + 1) where
-  pub bad-span : (GoodSpan p ph t g → ⊥) → PassedPages p ph t g 0
-  bad-span d = record { free = λ z. absurd (z refl); span = λ z. absurd (z refl); dirty = λ _ z. absurd (omega arith); bad = λ _ _. d }
-
-  pub good-span : (n : ℕ) → n ≡ pageCount t g → GoodSpan p ph t g → PassedPages p ph t g n
-  good-span n e F = record { free = λ _ z. absurd (omega arith); span = λ _ _. (o, e, F); dirty = λ _ z. absurd (omega arith); bad = λ z _ _. omega (arith, first-count F) }
-
 -- the pass has come to page g: the pages below it are as they should be, and no span goes on there
 pub record Upto (p ph : ℕ) (t : List ℕ) (g : ℕ) : Type 0 where
   pub fit : g ≤ p
@@ -104,44 +88,34 @@ module _ (p ph : ℕ) (t : List ℕ) where
   none = record { fit = omega arith; first = λ s l. absurd (omega arith); rest = λ k l. absurd (omega arith); whose = λ k l. absurd (omega arith) }
 
   module _ (g : ℕ) (U : Upto p ph t g) (l : g < p) where
-    -- a step
-    module _ (n : ℕ) (S : PassedPages p ph t g n) (d : n ≢ 0) where
-      free : owner t g ≡ 0 → Upto p ph t (g + n)
-      free z = record { fit = omega (arith, one); first = λ s m e. first s m e (ltb s g) refl; rest = λ k m e. rest k m e (ltb k g) refl; whose = λ k m u. whose k m u (ltb k g) refl }
+    -- a free page more
+    module _ (z : owner t g ≡ 0) (bare : BareEntry t g) where
+      here : (k : ℕ) → k < g + 1 → ltb k g ≡ false → k ≡ g
+      here k m e = omega (arith, ltb-false k g e)
+
+      pub free-step : Upto p ph t (g + 1)
+      free-step = record { fit = omega arith; first = λ s m e. first s m e (ltb s g) refl; rest = λ k m e. rest k m e (ltb k g) refl; whose = λ k m u. whose k m u (ltb k g) refl }
         where
-          one : n ≡ 1
-          one = S .free d z .0
-
-          here : (k : ℕ) → k < g + n → ltb k g ≡ false → k ≡ g
-          here k m e = omega (arith, one, ltb-false k g e)
-
-          first : (s : ℕ) → s < g + n → IsSpan t s → (b : Bool) → ltb s g ≡ b → GoodSpan p ph t s × (s + pageCount t s ≤ g + n)
+          first : (s : ℕ) → s < g + 1 → IsSpan t s → (b : Bool) → ltb s g ≡ b → GoodSpan p ph t s × (s + pageCount t s ≤ g + 1)
           first s m e true q = let x = U .first s (ltb-true s g q) e in (x .0, omega (arith, x .1))
           first s m e false q = absurd (omega (arith, rw (here s m q) at e))
 
-          rest : (k : ℕ) → k < g + n → owner t k ≢ k + 1 → (b : Bool) → ltb k g ≡ b → (pageCount t k ≡ 0) × (kindEntry t k ≡ 0)
+          rest : (k : ℕ) → k < g + 1 → owner t k ≢ k + 1 → (b : Bool) → ltb k g ≡ b → (pageCount t k ≡ 0) × (kindEntry t k ≡ 0)
           rest k m e true q = U .rest k (ltb-true k g q) e
-          rest k m e false q = rw (here k m q) (S .free d z .1)
+          rest k m e false q = rw (here k m q) bare
 
-          whose : (k : ℕ) → k < g + n → 0 < owner t k → (b : Bool) → ltb k g ≡ b → IsSpan t (owner t k - 1) × (owner t k - 1 ≤ k) × (k < owner t k - 1 + pageCount t (owner t k - 1))
+          whose : (k : ℕ) → k < g + 1 → 0 < owner t k → (b : Bool) → ltb k g ≡ b → IsSpan t (owner t k - 1) × (owner t k - 1 ≤ k) × (k < owner t k - 1 + pageCount t (owner t k - 1))
           whose k m u true q = U .whose k (ltb-true k g q) u
           whose k m u false q = absurd (omega (arith, rw (here k m q) at u))
 
-      span : owner t g ≢ 0 → Upto p ph t (g + n)
-      span z = record { fit = omega (arith, size, f .inside); first = λ s m e. first s m e (ltb s g) refl (eqb s g) refl; rest = λ k m e. rest k m e (ltb k g) refl (eqb k g) refl; whose = λ k m u. whose k m u (ltb k g) refl (eqb k g) refl }
+    -- a span more
+    module _ (starts : owner t g ≡ g + 1) (f : GoodSpan p ph t g) (n : ℕ) (size : n ≡ pageCount t g) where
+      body : (k : ℕ) → k < g + n → ltb k g ≡ false → eqb k g ≡ false → Further t g k
+      body k m q r = f .body k (omega (arith, ltb-false k g q, eqb-false k g r)) (omega (arith, size))
+
+      pub span-step : Upto p ph t (g + n)
+      span-step = record { fit = omega (arith, size, f .inside); first = λ s m e. first s m e (ltb s g) refl (eqb s g) refl; rest = λ k m e. rest k m e (ltb k g) refl (eqb k g) refl; whose = λ k m u. whose k m u (ltb k g) refl (eqb k g) refl }
         where
-          f : GoodSpan p ph t g
-          f = S .span d z .2
-
-          starts : owner t g ≡ g + 1
-          starts = S .span d z .0
-
-          size : n ≡ pageCount t g
-          size = S .span d z .1
-
-          body : (k : ℕ) → k < g + n → ltb k g ≡ false → eqb k g ≡ false → Further t g k
-          body k m q r = f .body k (omega (arith, ltb-false k g q, eqb-false k g r)) (omega (arith, size))
-
           first : (s : ℕ) → s < g + n → IsSpan t s → (b : Bool) → ltb s g ≡ b → (c : Bool) → eqb s g ≡ c → GoodSpan p ph t s × (s + pageCount t s ≤ g + n)
           first s m e true q c r = let x = U .first s (ltb-true s g q) e in (x .0, omega (arith, x .1))
           first s m e false q true r = rw (eqb-true s g r) (f, omega (arith, size))
@@ -162,31 +136,12 @@ module _ (p ph : ℕ) (t : List ℕ) where
               let o : owner t k - 1 ≡ g = omega (arith, body k m q r .owned) in
               rw o (starts, omega (arith, ltb-false k g q), omega (arith, size))
 
-      pub step : Upto p ph t (g + n)
-      step = go (eqb (owner t g) 0) refl
-        where
-          go : (b : Bool) → eqb (owner t g) 0 ≡ b → Upto p ph t (g + n)
-          go true e = free (eqb-true (owner t g) 0 e)
-          go false e = span (eqb-false (owner t g) 0 e)
-
-    pub step-fits : (n : ℕ) → PassedPages p ph t g n → g + n ≤ p
-    step-fits n S = go (eqb n 0) refl
-      where
-        go : (b : Bool) → eqb n 0 ≡ b → g + n ≤ p
-        go true e = omega (arith, eqb-true n 0 e)
-        go false e = step n S (eqb-false n 0 e) .fit
-
-    -- a fault
-    pub fault : PassedPages p ph t g 0 → GoodPages p ph t → ⊥
-    fault S F = go (eqb (owner t g) 0) refl (eqb (owner t g) (g + 1)) refl
-      where
-        go : (a : Bool) → eqb (owner t g) 0 ≡ a → (b : Bool) → eqb (owner t g) (g + 1) ≡ b → ⊥
-        go true e b f = let z = eqb-true (owner t g) 0 e in S .dirty refl z (F .spans .rest g (omega arith))
-        go false e true f = let z = eqb-true (owner t g) (g + 1) f in S .bad refl z (first-of F g z)
-        go false e false f =
-            let w = F .spans .whose g (omega (arith, eqb-false (owner t g) 0 e)) in
-            let x = U .first (owner t g - 1) (omega (arith, eqb-false (owner t g) 0 e, eqb-false (owner t g) (g + 1) f)) (w .0) in
-            omega (arith, x .1, w .2)
+    -- a page that belongs to a span which does not start there: every span below it has ended
+    pub stray : owner t g ≢ 0 → owner t g ≢ g + 1 → GoodPages p ph t → ⊥
+    stray d e F =
+        let w = F .spans .whose g (omega (arith, d)) in
+        let x = U .first (owner t g - 1) (omega (arith, d, e, w .1)) (w .0) in
+        omega (arith, x .1, w .2)
 
   -- a page past the end reads as free
   past : PageTable p t → (g : ℕ) → p ≤ g → (owner t g ≡ 0) × (pageCount t g ≡ 0) × (kindEntry t g ≡ 0)

@@ -6,7 +6,7 @@ use mathlib.Core.Logic.{_≢_}
 use mathlib.Core.Path.{_≡_, refl}
 use native.Mathlib.Omega.{arith}
 use lib.Dec.{eqb, ltb}
-use borrow.Author.Tests.{ltb-true, ltb-false, eqb-true, eqb-false}
+use borrow.Author.Tests.{ltb-true, ltb-false, eqb-true, eqb-false, ne-eqb}
 use Rattle.model.specs.Spans.{owner, pageCount}
 use Rattle.model.specs.Facts.{Spans, IsSpan}
 use Rattle.model.proofs.Spans.{fits}
@@ -26,6 +26,13 @@ reads-own R = record {
   unswept = rw (R .start) (R .unswept);
   narrow = R .narrow;
 }
+
+-- the pages of a stretch: of a free page, of a span that was read
+pub free-pages : (t : List ℕ) (g : ℕ) → owner t g ≡ 0 → 1 ≡ stretch t g
+free-pages t g e = rw e
+
+pub span-pages : {t : List ℕ} {g : ℕ} {r : Span} → Reads t g r → IsSpan t g → r .pages ≡ stretch t g
+span-pages {t} {g} R i = rw (ne-eqb (owner t g) 0 (omega arith)) (R .pages)
 
 -- no span lies on both sides of the beginning of page g
 abbrev pub Edge : List ℕ → ℕ → Type 0

@@ -1,4 +1,4 @@
--- What the audit's pass over the page table says: of the whole table, of one span's first page, and of one step of the pass.
+-- What the audit's pass over the page table says: of the whole table, and of one span's first page.
 use Prim.Native.Nat.{ℕ, _+_, _<_, _≤_}
 use mathlib.Core.List.{List}
 use mathlib.Core.Logic.{_≢_}
@@ -32,10 +32,3 @@ pub record GoodSpan (p ph : ℕ) (t : List ℕ) (s : ℕ) : Type 0 where
   pub inside : s + pageCount t s ≤ p
   pub body : Body t s
   pub swept : ph ≢ sweep → kindEntry t s < unsweptFlag
-
--- from page g on n pages are passed, a free page or a whole span; 0 is a fault
-pub record PassedPages (p ph : ℕ) (t : List ℕ) (g n : ℕ) : Type 0 where
-  pub free : n ≢ 0 → owner t g ≡ 0 → (n ≡ 1) × BareEntry t g
-  pub span : n ≢ 0 → owner t g ≢ 0 → (owner t g ≡ g + 1) × (n ≡ pageCount t g) × GoodSpan p ph t g
-  pub dirty : n ≡ 0 → owner t g ≡ 0 → BareEntry t g → ⊥
-  pub bad : n ≡ 0 → owner t g ≡ g + 1 → GoodSpan p ph t g → ⊥

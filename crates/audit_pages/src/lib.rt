@@ -13,7 +13,7 @@ ghost use Rattle.model.specs.Facts.{GoodEntry, States};
 ghost use Rattle.model.specs.Lent.{Roots, PageTable, HasEntry};
 ghost use Rattle.audit_pages.specs.Stacks.{GoodPhase, EmptyStack, GoodStack};
 ghost use Rattle.page_table.specs.Span.{Reads};
-ghost use Rattle.audit_pages.specs.Pass.{GoodPages, BareEntry, Further, Body, GoodSpan, PassedPages};
+ghost use Rattle.audit_pages.specs.Pass.{GoodPages, BareEntry, Further, Body, GoodSpan};
 use page_table::Span;
 use units::CLOSED;
 use units::FIRST_STATE;
@@ -208,30 +208,6 @@ fn span_ok(p: usize, table: &[u32], phase: u64, span: Span) -> bool
     body_ok(p, table, span.start, count)
 }
 
-// How many pages there are to pass at page g, where no span is under way: one free page, or a whole
-// span. 0 is a fault.
-fn passed(p: usize, table: &[u32], phase: u64, g: Page) -> usize
-    requires { ⌜ PageTable p (now table) × (p ≤ maxPages) × (g .0 < p) ⌝ }
-    ensures { λ r. ⌜ PassedPages p phase (now (table .entry)) (g .0) r ⌝ }
-{
-    let at = g.0;
-    let owner = page_table::owner(table, g);
-    if owner == 0 {
-        if !bare_entry(table, g) {
-            return 0;
-        }
-        return 1;
-    }
-    if owner != at + 1 {
-        return 0;
-    }
-    let span = page_table::span_at(table, g);
-    if !span_ok(p, table, phase, span) {
-        return 0;
-    }
-    span.pages
-}
-
 // The page table of p pages is as it should be in this phase.
 pub fn pages_ok(p: usize, table: &[u32], phase: u64) -> bool
     requires { ⌜ PageTable p (now table) × (p ≤ maxPages) ⌝ }
@@ -239,10 +215,22 @@ pub fn pages_ok(p: usize, table: &[u32], phase: u64) -> bool
 {
     let mut g = 0;
     while g < p {
-        let n = passed(p, table, phase, Page(g));
-        g += n;
-        if n == 0 {
-            return false;
+        let at = Page(g);
+        let owner = page_table::owner(table, at);
+        if owner == 0 {
+            g += 1;
+            if !bare_entry(table, at) {
+                return false;
+            }
+        } else {
+            if owner != g + 1 {
+                return false;
+            }
+            let span = page_table::span_at(table, at);
+            if !span_ok(p, table, phase, span) {
+                return false;
+            }
+            g += span.pages;
         }
     }
     true
