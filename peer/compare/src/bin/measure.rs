@@ -241,22 +241,25 @@ struct Settings {
     clock: f64,
 }
 
-/// Both sides by turns on the same memory, so that where it lies is the same for both.
+/// Both sides by turns on the same memory, so that where it lies is the same for both. Each round has
+/// memory of its own, which lies elsewhere: how fast words are zeroed depends on where they start.
 fn measure(prepared: &Prepared, settings: &Settings) -> Measured {
     let (plain, proved) = (Side::new(apply, prepared), Side::new(proved_apply, prepared));
-    let mut memory = prepared.memory.clone();
-    let first = plain.turn(&mut memory, 3, settings.clock).max(1.0);
-    proved.turn(&mut memory, 3, settings.clock);
+    let mut memories = vec![prepared.memory.clone(); settings.rounds];
+    let first = plain.turn(&mut memories[0], 3, settings.clock).max(1.0);
     let calls = ((settings.block / first) as usize).clamp(1, MAX_BLOCK_CALLS);
     let (mut ratios, mut times) = (Vec::new(), Vec::new());
-    for round in 0..settings.rounds {
-        let mut turn = |side: &Side| side.turn(&mut memory, calls, settings.clock);
+    for (round, memory) in memories.iter_mut().enumerate() {
+        let mut turn = |side: &Side, calls| side.turn(memory, calls, settings.clock);
+        // The first calls bring the memory into the cache.
+        turn(&plain, 3);
+        turn(&proved, 3);
         let (time, proved_time) = if round % 2 == 0 {
-            let time = turn(&plain);
-            (time, turn(&proved))
+            let time = turn(&plain, calls);
+            (time, turn(&proved, calls))
         } else {
-            let proved_time = turn(&proved);
-            (turn(&plain), proved_time)
+            let proved_time = turn(&proved, calls);
+            (turn(&plain, calls), proved_time)
         };
         ratios.push(proved_time / time.max(1.0));
         times.push(time);
