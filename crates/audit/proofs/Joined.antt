@@ -16,7 +16,8 @@ use Rattle.model.proofs.Audit.{audit-facts, facts-audit}
 use Rattle.model.proofs.Lent.{sized-consistent}
 use Rattle.audit_pages.specs.Pass.{GoodPages}
 use Rattle.audit_bits.specs.Words.{GoodBits}
-use Rattle.audit_words.specs.Contents.{Filled, Told, Contents}
+use Rattle.audit_references.specs.References.{Told}
+use Rattle.audit_words.specs.Contents.{Filled, Contents}
 
 module _ (h : Heap) (Z : Sized h) where
   -- a part says no

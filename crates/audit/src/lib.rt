@@ -59,7 +59,7 @@ fn audit(p: usize, arena: &[u64], table: &[u32], bits: &[u64], roots: &[u64]) ->
         return false;
     }
     let swept = phase != SWEEP;
-    if !audit_words::roots_ok(p, table, bits, roots, swept) {
+    if !audit_references::roots_ok(p, table, bits, roots, swept) {
         return false;
     }
     audit_words::contents_ok(p, arena, table, bits, swept)

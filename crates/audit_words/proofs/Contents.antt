@@ -16,14 +16,22 @@ use Rattle.model.specs.Spans.{owner, pageCount, isScan, isUnswept, spanOf, elem
 use Rattle.model.proofs.Answers.{yes, no}
 use Rattle.model.proofs.Tests.{is-true, of-true, clash}
 use Rattle.model.proofs.Bounded.{first-props}
+use Rattle.model.proofs.Bitmaps.{bit-in}
 use Rattle.model.specs.Facts.{IsSpan, Element, Reference, bit, keptAt}
 use Rattle.model.proofs.Spans.{at-home, span-of, in-span, own-word, round, whole, fits}
 use Rattle.model.proofs.Named.{kept-allocated}
 use Rattle.model.proofs.Facts.{no-pointer}
 use Rattle.page_table.specs.Span.{Reads}
 use Rattle.page_table.specs.declared.Span.{Span}
-use Rattle.audit_words.specs.Contents.{PassedContents, Filled, ElementAt, Pointers, SpanContents, Contents, Searched, ContentsBelow, keptFrom}
-use Rattle.audit_words.proofs.References.{kept-is, from-bound}
+use Rattle.audit_references.specs.References.{keptFrom}
+use Rattle.audit_references.proofs.References.{kept-is, from-bound}
+use Rattle.audit_words.specs.Contents.{PassedContents, Filled, ElementAt, Pointers, SpanContents, Contents, Searched, ContentsBelow}
+
+-- the pointer bit of word f of an element
+pub pointer-is : (p : ℕ) (b : List ℕ) (w f at : ℕ) → at ≡ 3 * (pageWords * p) + w + f → w + f < pageWords * p → bitAt b at ≡ bit p pointer b (w + f)
+pointer-is p b w f at e l =
+    let z : at ≡ 3 * (pageWords * p) + (w + f) = omega arith in
+    rw z (sym (bit-in (pageWords * p) pointer b (w + f) l))
 
 -- where the first set bit from `at` on stands
 pub found-range : (b : List ℕ) (at end j : ℕ) → j ≡ at + firstBelow (end - at) (λ k. bitAt b (at + k)) → at < end → (at ≤ j) × (j ≤ end)

@@ -1,4 +1,2 @@
-pub mod References
-pub mod Ranges
 pub mod Contents
 pub mod Blocks

@@ -1,6 +1,5 @@
--- What the audit of references assumes of the page table and the bitmaps, and what it says of the arena's words.
+-- What the audit of the arena's words assumes of the page table and the bitmaps, and what it says of the words.
 use Prim.Native.Nat.{ℕ, _+_, _*_, _<_, _≤_}
-use mathlib.Core.Bool.{Bool, true, cond}
 use mathlib.Core.List.{List}
 use mathlib.Core.Logic.{_≢_}
 use mathlib.Core.Path.{_≡_}
@@ -11,25 +10,14 @@ use Rattle.model.specs.Memory.{pageWords, wordBits, firstWord}
 use Rattle.model.specs.Bitmaps.{pointer, bitOf}
 use Rattle.model.specs.Spans.{pageCount, isScan, isUnswept, elementOf, elementWords, spanOf}
 use Rattle.model.specs.Facts.{IsSpan, Element, Reference, bit, keptAt}
-use Rattle.model.specs.Lent.{Consistent, AllSwept}
+use Rattle.model.specs.Lent.{Consistent}
 use Rattle.audit_pages.specs.Stretch.{stretch}
+use Rattle.audit_references.specs.References.{keptFrom}
 
 -- a page table and bitmaps that are as they should be, and an arena of as many pages
 pub record Filled (p : ℕ) (a t b : List ℕ) : Type 0 where
   pub consistent : Consistent p t b
   pub arena : length a ≡ pageWords * p
-
--- what `swept` tells a test
-abbrev pub Told : Bool → List ℕ → Type 0
-Told swept t = swept ≡ true → AllSwept t
-
--- the bit at which the part starts that says which elements of a span are kept: marked in an unswept one, else allocated
-abbrev pub keptFrom : ℕ → Bool → ℕ
-keptFrom p unswept = cond unswept (pageWords * p) 0
-
--- the roots from `from` on and before `to` are references
-abbrev pub RootRange : ℕ → List ℕ → List ℕ → List ℕ → ℕ → ℕ → Type 0
-RootRange p t b r from to = (i : ℕ) → from ≤ i → i < to → Reference p t b (getD r i 0)
 
 -- the pointer words among the n words from w on hold references
 abbrev pub Pointers : ℕ → List ℕ → List ℕ → List ℕ → ℕ → ℕ → Type 0

@@ -1,7 +1,6 @@
 -- The invariant: the words below f are pointers and hold references.
 use Rattle.model.specs.Memory.{pageWords}
-use Rattle.audit_words.proofs.References.{pointer-is}
-use Rattle.audit_words.proofs.Contents.{stopped}
+use Rattle.audit_words.proofs.Contents.{pointer-is, stopped}
 use Rattle.model.specs.Facts.{Reference, bit}
 use Rattle.model.proofs.Tests.{is-true}
 use Rattle.model.specs.Bitmaps.{pointer}

@@ -1,11 +1,11 @@
 -- A value that is nil, one that is no address, one past the arena, and any other.
 use mathlib.Core.Logic.{_≢_}
 use Rattle.model.specs.Memory.{nil}
-use Rattle.audit_words.proofs.References.{nil-value, not-nil, no-address, past-arena, names-kept}
+use Rattle.audit_references.proofs.References.{nil-value, not-nil, no-address, past-arena, names-kept}
 use native.Mathlib.Omega.{arith}
 use borrow.Author.Needs.{needs}
-use Rattle.audit_words.proofs.is_reference.Statement.{statement}
-use Rattle.audit_words.proofs.is_reference.Tie as tie
+use Rattle.audit_references.proofs.is_reference.Statement.{statement}
+use Rattle.audit_references.proofs.is_reference.Tie as tie
 
 -- the value is not nil
 abbrev start : tie.Else1 → tie.Start

@@ -1,7 +1,8 @@
+-- The marked bits stand behind the allocated ones.
 use native.Mathlib.Omega.{arith}
 use borrow.Author.Needs.{needs}
-use Rattle.audit_words.proofs.kept_from.Statement.{statement}
-use Rattle.audit_words.proofs.kept_from.Tie as tie
+use Rattle.audit_references.proofs.kept_from.Statement.{statement}
+use Rattle.audit_references.proofs.kept_from.Tie as tie
 
 returns : tie.Need-returns
 returns c = rw (c .if1 .taken) (omega arith)

@@ -1,10 +1,10 @@
 -- Where no span is unswept, what is allocated is kept.
-use Rattle.audit_words.proofs.References.{span-below, from-bound, kept-is, kept-told}
+use Rattle.audit_references.proofs.References.{span-below, from-bound, kept-is, kept-told}
 use mathlib.Core.Path.{refl, _∙_}
 use native.Mathlib.Omega.{arith}
 use borrow.Author.Needs.{needs}
-use Rattle.audit_words.proofs.kept.Statement.{statement}
-use Rattle.audit_words.proofs.kept.Tie as tie
+use Rattle.audit_references.proofs.kept.Statement.{statement}
+use Rattle.audit_references.proofs.kept.Tie as tie
 
 abbrev start : tie.After-shared-slice-known2 → tie.Start
 start c = c .before .before

@@ -1,12 +1,12 @@
 -- The slots, then the globals.
 use Rattle.model.specs.Memory.{firstGlobal, firstState}
-use Rattle.audit_words.proofs.Ranges.{range-join}
+use Rattle.audit_references.proofs.Ranges.{range-join}
 use Rattle.model.proofs.Answers.{yes, no}
 use native.Mathlib.Omega.{arith}
 use denote.Ref.{now}
 use borrow.Author.Needs.{needs}
-use Rattle.audit_words.proofs.roots_ok.Statement.{statement}
-use Rattle.audit_words.proofs.roots_ok.Tie as tie
+use Rattle.audit_references.proofs.roots_ok.Statement.{statement}
+use Rattle.audit_references.proofs.roots_ok.Tie as tie
 
 abbrev start : tie.After-slots-ok → tie.Start
 start c = c .before .before .before .before

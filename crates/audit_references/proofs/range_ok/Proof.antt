@@ -1,13 +1,13 @@
 -- The invariant: the roots from `from` on and below i are references.
-use Rattle.audit_words.specs.Contents.{RootRange}
-use Rattle.audit_words.proofs.Ranges.{range-more}
+use Rattle.audit_references.specs.References.{RootRange}
+use Rattle.audit_references.proofs.Ranges.{range-more}
 use Prim.Native.Nat.{_-_, _≤_}
 use Rattle.model.proofs.Answers.{yes, no}
 use native.Mathlib.Omega.{arith}
 use denote.Ref.{now}
 use borrow.Author.Needs.{needs}
-use Rattle.audit_words.proofs.range_ok.Statement.{statement}
-use Rattle.audit_words.proofs.range_ok.Tie as tie
+use Rattle.audit_references.proofs.range_ok.Statement.{statement}
+use Rattle.audit_references.proofs.range_ok.Tie as tie
 
 abbrev Inv-loop : tie.InvT-loop
 Inv-loop p table bits roots swept from to i₀ i = (from ≤ i) × RootRange p table bits roots from i

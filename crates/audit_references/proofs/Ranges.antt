@@ -10,7 +10,7 @@ use lib.ListN.{getD}
 use borrow.Author.Tests.{ltb-true, ltb-false}
 use Rattle.model.specs.Memory.{stackCount, slotCount, firstState, closed}
 use Rattle.model.specs.Facts.{Reference, States}
-use Rattle.audit_words.specs.Contents.{RootRange}
+use Rattle.audit_references.specs.References.{RootRange}
 
 module _ (p : ℕ) (t b r : List ℕ) where
   pub range-join : (from k to : ℕ) → RootRange p t b r from k → RootRange p t b r k to → RootRange p t b r from to

@@ -1,14 +1,14 @@
 -- The invariant: the slots of the stacks below s are references.
 use Rattle.model.specs.Memory.{slotCount, stackCount}
-use Rattle.audit_words.specs.Contents.{RootRange}
-use Rattle.audit_words.proofs.Ranges.{range-join, closed-range}
+use Rattle.audit_references.specs.References.{RootRange}
+use Rattle.audit_references.proofs.Ranges.{range-join, closed-range}
 use Rattle.model.proofs.Answers.{yes, no}
 use Prim.Native.Nat.{_-_, _*_, _≤_}
 use native.Mathlib.Omega.{arith}
 use denote.Ref.{now}
 use borrow.Author.Needs.{needs}
-use Rattle.audit_words.proofs.slots_ok.Statement.{statement}
-use Rattle.audit_words.proofs.slots_ok.Tie as tie
+use Rattle.audit_references.proofs.slots_ok.Statement.{statement}
+use Rattle.audit_references.proofs.slots_ok.Tie as tie
 
 abbrev Inv-loop : tie.InvT-loop
 Inv-loop p table bits roots swept s₀ s = (s ≤ stackCount) × RootRange p table bits roots 0 (slotCount * s)

@@ -8,13 +8,13 @@ use native.Mathlib.Omega.{arith}
 use lib.Dec.{T, eqb, leb}
 use borrow.Author.Tests.{eqb-true, eqb-false}
 use Rattle.model.specs.Memory.{addressOf, wordOf, pageWords, unsweptFlag}
-use Rattle.model.specs.Bitmaps.{bitAt, allocated, marked, pointer}
+use Rattle.model.specs.Bitmaps.{bitAt, allocated, marked}
 use Rattle.model.specs.Spans.{owner, kindEntry, isUnswept, spanOf}
 use Rattle.model.proofs.Bitmaps.{bit-in, bit-inside}
 use Rattle.model.specs.Facts.{Spans, Reference, bit, keptAt, unsweptAt}
 use Rattle.model.specs.Lent.{AllSwept}
 use Rattle.model.proofs.Facts.{swept-all}
-use Rattle.audit_words.specs.Contents.{keptFrom}
+use Rattle.audit_references.specs.References.{keptFrom}
 
 -- the span of a word of the arena; page 0 where there is none
 pub span-below : {p : ℕ} {t : List ℕ} → Spans p t → (w : ℕ) → w < pageWords * p → spanOf t w < p
@@ -47,12 +47,6 @@ kept-inside p t b w = go (unsweptAt t w)
     go : (u : Bool) → T (cond u (bit p marked b w) (bit p allocated b w)) → w < pageWords * p
     go true x = bit-inside (pageWords * p) marked b w x
     go false x = bit-inside (pageWords * p) allocated b w x
-
--- the pointer bit of word f of an element
-pub pointer-is : (p : ℕ) (b : List ℕ) (w f at : ℕ) → at ≡ 3 * (pageWords * p) + w + f → w + f < pageWords * p → bitAt b at ≡ bit p pointer b (w + f)
-pointer-is p b w f at e l =
-    let z : at ≡ 3 * (pageWords * p) + (w + f) = omega arith in
-    rw z (sym (bit-in (pageWords * p) pointer b (w + f) l))
 
 pub not-nil : (v : ℕ) (n : Bool) → n ≡ eqb v 0 → n ≡ false → v ≢ 0
 not-nil v n e q = eqb-false v 0 (sym e ∙ q)
