@@ -12,7 +12,7 @@ use Rattle.model.specs.Facts.{Spans, IsSpan}
 use Rattle.model.proofs.Spans.{fits}
 use Rattle.page_table.specs.Span.{Reads}
 use Rattle.page_table.specs.declared.Span.{Span}
-use Rattle.audit_pages.specs.Stretch.{stretch, Begins}
+use Rattle.audit_pages.specs.Stretch.{stretch}
 
 -- a span that was read, by the page that it names as its first
 pub reads-own : {t : List ℕ} {s : ℕ} {r : Span} → Reads t s r → Reads t (r .start .0) r
@@ -48,17 +48,15 @@ module _ {P : ℕ} {t : List ℕ} (F : Spans P t) where
   pub edge-first : Edge t 0
   edge-first h a u = omega arith
 
-  pub begins : (g : ℕ) → g < P → Edge t g → Begins P t g
-  begins g l e = record { low = l; first = λ u. omega (arith, e g (omega arith) u, F .whose g u .1) }
+  -- there a page that is not free is the first of a span
+  pub begins : (g : ℕ) → Edge t g → 0 < owner t g → IsSpan t g
+  begins g e u = omega (arith, e g (omega arith) u, F .whose g u .1)
 
   pub next : (g : ℕ) → g < P → Edge t g → NextStretch P t g
   next g m e = go (eqb (owner t g) 0) refl
     where
-      B : Begins P t g
-      B = begins g m e
-
       go : (c : Bool) → eqb (owner t g) 0 ≡ c → NextStretch P t g
-      go true p = record { edge = edge; inside = rw p (omega (arith, B .low)); some = rw p (omega arith) }
+      go true p = record { edge = edge; inside = rw p (omega (arith, m)); some = rw p (omega arith) }
         where
           edge : Edge t (g + stretch t g)
           edge h a u =
@@ -69,7 +67,7 @@ module _ {P : ℕ} {t : List ℕ} (F : Spans P t) where
       go false p = record { edge = edge; inside = rw p (F .inside g i); some = rw p (fits F g i .pages) }
         where
           i : IsSpan t g
-          i = B .first (omega (arith, eqb-false (owner t g) 0 p))
+          i = begins g e (omega (arith, eqb-false (owner t g) 0 p))
 
           edge : Edge t (g + stretch t g)
           edge h a u = rw p (late (ltb (owner t h - 1) (g + pageCount t g)) refl)
@@ -85,21 +83,13 @@ module _ {P : ℕ} {t : List ℕ} (F : Spans P t) where
                   absurd (omega (arith, l, rw z at (f .2)))
               late false q = ltb-false (owner t h - 1) (g + pageCount t g) q
 
-  -- a pass that stops at no page, or goes on by a stretch, does not go past the end
-  pub next-fits : (g n : ℕ) → NextStretch P t g → (n ≢ 0 → n ≡ stretch t g) → g + n ≤ P
-  next-fits g n N f = go (eqb n 0) refl
-    where
-      go : (c : Bool) → eqb n 0 ≡ c → g + n ≤ P
-      go true e = omega (arith, eqb-true n 0 e, N .inside)
-      go false e = omega (arith, f (eqb-false n 0 e), N .inside)
-
   -- what holds of each span below page g, and of one that starts there, holds of those below the next stretch
-  pub spans-more : (Q : ℕ → Type 0) (g : ℕ) → g < P → Edge t g → ((s : ℕ) → s < g → IsSpan t s → Q s) → (IsSpan t g → Q g) → (s : ℕ) → s < g + stretch t g → IsSpan t s → Q s
-  spans-more Q g low e A U s l i = go (ltb s g) refl (ltb g s) refl
+  pub spans-more : (Q : ℕ → Type 0) (g : ℕ) → Edge t g → ((s : ℕ) → s < g → IsSpan t s → Q s) → (IsSpan t g → Q g) → (s : ℕ) → s < g + stretch t g → IsSpan t s → Q s
+  spans-more Q g e A U s l i = go (ltb s g) refl (ltb g s) refl
     where
       inner : g < s → (c : Bool) → eqb (owner t g) 0 ≡ c → s < g + cond c 1 (pageCount t g) → ⊥
       inner m true p k = omega arith
-      inner m false p k = omega (arith, F .body g s (begins g low e .first (omega (arith, eqb-false (owner t g) 0 p))) (omega arith) k)
+      inner m false p k = omega (arith, F .body g s (begins g e (omega (arith, eqb-false (owner t g) 0 p))) (omega arith) k)
 
       go : (c : Bool) → ltb s g ≡ c → (d : Bool) → ltb g s ≡ d → Q s
       go true p d q = A s (ltb-true s g p) i

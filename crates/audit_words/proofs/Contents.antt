@@ -25,7 +25,7 @@ use Rattle.page_table.specs.Span.{Reads}
 use Rattle.page_table.specs.declared.Span.{Span}
 use Rattle.audit_references.specs.References.{keptFrom}
 use Rattle.audit_references.proofs.References.{kept-is, from-bound}
-use Rattle.audit_words.specs.Contents.{PassedContents, Filled, ElementAt, Pointers, SpanContents, Contents, Searched, ContentsBelow}
+use Rattle.audit_words.specs.Contents.{Filled, ElementAt, Pointers, SpanContents, Contents, Searched, ContentsBelow}
 
 -- the pointer bit of word f of an element
 pub pointer-is : (p : ℕ) (b : List ℕ) (w f at : ℕ) → at ≡ 3 * (pageWords * p) + w + f → w + f < pageWords * p → bitAt b at ≡ bit p pointer b (w + f)
@@ -36,10 +36,6 @@ pointer-is p b w f at e l =
 -- where the first set bit from `at` on stands
 pub found-range : (b : List ℕ) (at end j : ℕ) → j ≡ at + firstBelow (end - at) (λ k. bitAt b (at + k)) → at < end → (at ≤ j) × (j ≤ end)
 found-range b at end j e l = (omega arith, omega (arith, first-props (end - at) (λ k. bitAt b (at + k)) .within))
-
--- a step of the pass, at a free page
-pub free-page : (p : ℕ) (a t b : List ℕ) (g : ℕ) → owner t g ≡ 0 → PassedContents p a t b g 1
-free-page p a t b g e = record { pages = λ _. rw e; words = λ _ i. absurd (omega arith); fault = λ z. absurd (omega arith) }
 
 module _ (p : ℕ) (a t b : List ℕ) (F : Filled p a t b) where
   -- one element
@@ -89,25 +85,12 @@ module _ (p : ℕ) (a t b : List ℕ) (F : Filled p a t b) where
     pub read-searched : (n from end : ℕ) → n ≡ elementWordsOf (r .class) (r .pages) → from ≡ keptFrom p (r .unswept) → end ≡ from + pageWords * (s + r .pages) → Searched p t s n from end
     read-searched n from end size start stop = searched s n from end i (rw (R .class, R .pages) at size) (rw (R .unswept) at start) (rw (R .pages) at stop)
 
-    -- a step of the pass, at the first page of a span
-    pub span-passed : (T (isScan t s) → SpanContents p a t b s) → PassedContents p a t b s (r .pages)
-    span-passed C = record {
-      pages = λ _. rw (ne-eqb (owner t s) 0 (omega arith)) (R .pages);
-      words = λ _ _. C;
-      fault = λ z. absurd (omega (arith, R .pages, fits (F .consistent .spans) s i .pages));
-    }
+    -- it has no pointers, or its test says what its contents are
+    pub plain-span : r .scan ≡ false → T (isScan t s) → SpanContents p a t b s
+    plain-span e x = clash (isScan t s) (of-true _ x) (sym (R .scan) ∙ e)
 
-    pub plain-span : r .scan ≡ false → PassedContents p a t b s (r .pages)
-    plain-span e = span-passed (λ x. clash (isScan t s) (of-true _ x) (sym (R .scan) ∙ e))
-
-    own : (x : Bool) → T x ↔ SpanContents p a t b (r .start .0) → T x ↔ SpanContents p a t b s
-    own x f = rw (R .start) at f
-
-    pub bad-span : (x : Bool) → T x ↔ SpanContents p a t b (r .start .0) → not x ≡ true → PassedContents p a t b s 0
-    bad-span x f e = record { pages = λ z. absurd (z refl); words = λ z. absurd (z refl); fault = λ _ C. no x (own x f) e (each-span C s i) }
-
-    pub good-span : (x : Bool) → T x ↔ SpanContents p a t b (r .start .0) → not x ≡ false → PassedContents p a t b s (r .pages)
-    good-span x f e = span-passed (λ _. yes x (own x f) e)
+    pub own-span : (x : Bool) → T x ↔ SpanContents p a t b (r .start .0) → T x ↔ SpanContents p a t b s
+    own-span x f = rw (R .start) at f
 
   module _ (s n from end : ℕ) (S : Searched p t s n from end) (first : ℕ) (e : first ≡ pageWords * s) where
     kept-bit : (w : ℕ) → first ≤ w → from + w < end → bitAt b (from + w) ≡ keptAt p t b w

@@ -11,7 +11,6 @@ use Rattle.model.specs.Bitmaps.{pointer, bitOf}
 use Rattle.model.specs.Spans.{pageCount, isScan, isUnswept, elementOf, elementWords, spanOf}
 use Rattle.model.specs.Facts.{IsSpan, Element, Reference, bit, keptAt}
 use Rattle.model.specs.Lent.{Consistent}
-use Rattle.audit_pages.specs.Stretch.{stretch}
 use Rattle.audit_references.specs.References.{keptFrom}
 
 -- a page table and bitmaps that are as they should be, and an arena of as many pages
@@ -59,10 +58,3 @@ pub record Searched (p : ℕ) (t : List ℕ) (s n from end : ℕ) : Type 0 where
 abbrev pub ContentsBelow : ℕ → List ℕ → List ℕ → List ℕ → ℕ → ℕ → ℕ → ℕ → ℕ → Type 0
 ContentsBelow p a t b first n from end at =
     (w : ℕ) → first ≤ w → from + w < at → from + w < end → T (keptAt p t b w) → Pointers p a t b w n
-
--- at page g, which is free or the first of a span, n pages are passed, with references in the pointer words of a scan span's kept elements; 0 is a
--- fault
-pub record PassedContents (p : ℕ) (a t b : List ℕ) (g n : ℕ) : Type 0 where
-  pub pages : n ≢ 0 → n ≡ stretch t g
-  pub words : n ≢ 0 → IsSpan t g → T (isScan t g) → SpanContents p a t b g
-  pub fault : n ≡ 0 → Contents p a t b → ⊥

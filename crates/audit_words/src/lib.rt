@@ -9,13 +9,11 @@ ghost use lib.Dec.{T};
 ghost use Rattle.model.specs.Memory.{pageBlocks};
 ghost use Rattle.model.specs.Facts.{IsSpan};
 ghost use Rattle.page_table.specs.Span.{Reads};
-ghost use Rattle.audit_pages.specs.Stretch.{Begins};
 ghost use Rattle.audit_references.specs.Contracts.{atEntry};
 ghost use Rattle.audit_references.specs.References.{Told};
 ghost use Rattle.audit_words.specs.Contracts.{FilledHeap};
 ghost use Rattle.audit_words.specs.Contents.{ElementAt, Searched};
-ghost use Rattle.audit_words.specs.Contents.{Pointers, BlockContents, BlocksContents, SpanContents};
-ghost use Rattle.audit_words.specs.Contents.{PassedContents, Contents};
+ghost use Rattle.audit_words.specs.Contents.{Pointers, BlockContents, BlocksContents, SpanContents, Contents};
 use audit_references::is_reference;
 use page_table::Span;
 use units::Address;
@@ -155,25 +153,6 @@ fn span_ok(p: usize, arena: &[u64], table: &[u32], bits: &[u64], swept: bool, sp
     elements_ok(p, arena, table, bits, span.start, n, from, end)
 }
 
-// How many pages there are to pass at page g: one free page, or a whole span. In a scan span the
-// pointer words of kept elements hold references; 0 is a fault.
-fn passed(p: usize, arena: &[u64], table: &[u32], bits: &[u64], swept: bool, g: Page) -> usize
-    requires { ⌜ FilledHeap p arena table bits × Told swept (now table) × Begins p (now table) (g .0) ⌝ }
-    ensures { λ r. ⌜ atEntry (PassedContents p) arena table bits (g .0) r ⌝ }
-{
-    if page_table::owner(table, g) == 0 {
-        return 1;
-    }
-    let span = page_table::span_at(table, g);
-    if !span.scan {
-        return span.pages;
-    }
-    if !span_ok(p, arena, table, bits, swept, span) {
-        return 0;
-    }
-    span.pages
-}
-
 // Every pointer word of a kept element holds a reference.
 pub fn contents_ok(p: usize, arena: &[u64], table: &[u32], bits: &[u64], swept: bool) -> bool
     requires { ⌜ FilledHeap p arena table bits × Told swept (now table) ⌝ }
@@ -181,10 +160,17 @@ pub fn contents_ok(p: usize, arena: &[u64], table: &[u32], bits: &[u64], swept: 
 {
     let mut g = 0;
     while g < p {
-        let n = passed(p, arena, table, bits, swept, Page(g));
-        g += n;
-        if n == 0 {
-            return false;
+        let at = Page(g);
+        if page_table::owner(table, at) == 0 {
+            g += 1;
+        } else {
+            let span = page_table::span_at(table, at);
+            g += span.pages;
+            if span.scan {
+                if !span_ok(p, arena, table, bits, swept, span) {
+                    return false;
+                }
+            }
         }
     }
     true

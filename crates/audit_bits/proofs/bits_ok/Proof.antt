@@ -40,7 +40,7 @@ onward : (c : tie.In-loop Inv-loop μ-loop) → let a = start (c .before) .args 
 onward c n e G =
     let l = c .before in
     let N = ahead c in
-    rw e (N .inside, N .edge, good-more (l .loop .g) _ (l .loop .inv .2) (G .words), spans-more (start l .pre .0 .spans) _ (l .loop .g) (c .loop-test .taken) (l .loop .inv .1) (l .loop .inv .3) (G .used))
+    rw e (N .inside, N .edge, good-more (l .loop .g) _ (l .loop .inv .2) (G .words), spans-more (start l .pre .0 .spans) _ (l .loop .g) (l .loop .inv .1) (l .loop .inv .3) (G .used))
 
 -- the page is free
 none : (c : tie.Then1 Inv-loop μ-loop) → let l = c .before .before .before in owner (start l .args .table .now) (l .loop .g) ≡ 0
@@ -49,9 +49,8 @@ none c = omega (arith, c .before .owner .ensures)
 -- a span starts at the page
 first : (c : tie.Else1 Inv-loop μ-loop) → let l = c .before .before .before in IsSpan (start l .args .table .now) (l .loop .g)
 first c =
-    let turn = c .before .before in
-    let l = turn .before in
-    begins (start l .pre .0 .spans) (l .loop .g) (turn .loop-test .taken) (l .loop .inv .1) .first (omega (arith, c .before .owner .ensures))
+    let l = c .before .before .before in
+    begins (start l .pre .0 .spans) (l .loop .g) (l .loop .inv .1) (omega (arith, c .before .owner .ensures))
 
 loop-holds : tie.Need-loop-holds Inv-loop μ-loop
 loop-holds c = (omega arith, edge-first (c .before .before .pre .0 .spans), λ w a m. absurd (omega arith), λ s m. absurd (omega arith))
