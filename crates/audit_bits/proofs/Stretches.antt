@@ -1,6 +1,6 @@
 -- The way over the pages: what the tests of a free page and of a span say, and the steps together.
 use Prim.Native.Nat.{ℕ, _+_, _-_, _*_, _/_, _<_, _≤_}
-use mathlib.Core.Bool.{Bool, true, false, not}
+use mathlib.Core.Bool.{Bool, true, false}
 use mathlib.Core.List.{List}
 use mathlib.Core.Logic.{_↔_}
 use mathlib.Core.Path.{_≡_, refl, _∙_, ap}
@@ -11,7 +11,6 @@ use Rattle.model.specs.Memory.{pageWords, pageBlocks, mark, sweep}
 use Rattle.model.specs.Bounded.{allBelow, firstBelow}
 use Rattle.model.specs.Bitmaps.{bitAt, allocated, marked, gray, pointer}
 use Rattle.model.specs.Spans.{owner, pageCount}
-use Rattle.model.proofs.Answers.{yes, no}
 use Rattle.model.proofs.Tests.{is-true, of-true, clash}
 use Rattle.model.proofs.Bitmaps.{bit-in, bit-inside}
 use Rattle.model.proofs.Bounded.{all-iff, first-props}

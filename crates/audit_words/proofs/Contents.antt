@@ -7,13 +7,12 @@ use mathlib.Core.Path.{_≡_, refl, sym, _∙_, ap}
 use native.Mathlib.Omega.{arith}
 use lib.Dec.{T, eqb, ltb}
 use lib.ListN.{getD}
-use borrow.Author.Tests.{ltb-true, ltb-false, eqb-true, eqb-false, ne-eqb}
+use borrow.Author.Tests.{ltb-true, ltb-false, eqb-true, eqb-false}
 use Rattle.model.specs.Classes.{rows, mostLarge, elementWordsOf}
 use Rattle.model.specs.Memory.{pageWords}
 use Rattle.model.specs.Bounded.{firstBelow}
 use Rattle.model.specs.Bitmaps.{bitAt, pointer}
-use Rattle.model.specs.Spans.{owner, pageCount, isScan, isUnswept, spanOf, elementOf, elementWords}
-use Rattle.model.proofs.Answers.{yes, no}
+use Rattle.model.specs.Spans.{pageCount, isScan, isUnswept, spanOf, elementOf, elementWords}
 use Rattle.model.proofs.Tests.{is-true, of-true, clash}
 use Rattle.model.proofs.Bounded.{first-props}
 use Rattle.model.proofs.Bitmaps.{bit-in}

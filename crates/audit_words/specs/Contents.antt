@@ -1,14 +1,13 @@
 -- What the audit of the arena's words assumes of the page table and the bitmaps, and what it says of the words.
 use Prim.Native.Nat.{ℕ, _+_, _*_, _<_, _≤_}
 use mathlib.Core.List.{List}
-use mathlib.Core.Logic.{_≢_}
 use mathlib.Core.Path.{_≡_}
 use lib.Dec.{T}
 use lib.ListN.{length, getD}
 use Rattle.model.specs.Bounded.{_==_}
 use Rattle.model.specs.Memory.{pageWords, wordBits, firstWord}
 use Rattle.model.specs.Bitmaps.{pointer, bitOf}
-use Rattle.model.specs.Spans.{pageCount, isScan, isUnswept, elementOf, elementWords, spanOf}
+use Rattle.model.specs.Spans.{pageCount, isUnswept, elementOf, elementWords, spanOf}
 use Rattle.model.specs.Facts.{IsSpan, Element, Reference, bit, keptAt}
 use Rattle.model.specs.Lent.{Consistent}
 use Rattle.audit_references.specs.References.{keptFrom}
