@@ -20,7 +20,7 @@ use Rattle.model.proofs.Spans.{element-fits}
 use Rattle.model.specs.Facts.{Audited}
 use Rattle.model.proofs.Checks.{allocate-passed}
 use Rattle.model.proofs.Outcomes.{refused}
-use Rattle.page_table.proofs.Allocate.{best-fits}
+use Rattle.page_runs.proofs.Allocate.{best-fits}
 use Rattle.classes.specs.Shape.{Shaped}
 use Rattle.classes.specs.declared.Shape.{Shape}
 use Rattle.page_entries.specs.Needs.{NewEntries}

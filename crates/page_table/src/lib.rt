@@ -1,13 +1,12 @@
 // The page table, read: a lent list of numbers, three to a page, which are the start page + 1 of
 // the page's span, the span's page count and its kind. The numbers of an entry, whether a span starts
-// at a page, a span by its start page and by a word of it, and the best run of free pages. Crate
-// page_entries writes the table.
+// at a page, and a span by its start page and by a word of it. Crate page_entries writes the table, and
+// crate page_runs finds room among its free pages.
 ghost use mathlib.Core.Path.{_≡_};
-ghost use Prim.Native.Nat.{_-_, _<_, _≤_};
+ghost use Prim.Native.Nat.{_-_, _<_};
 ghost use lib.ListN.{length, getD};
 ghost use Rattle.model.specs.Spans.{owner, pageCount, kindEntry, startsSpan, spanOf};
-ghost use Rattle.model.specs.Allocate.{runLength, bestRun};
-ghost use Rattle.model.specs.Lent.{PageTable, HasEntry, WordEntries};
+ghost use Rattle.model.specs.Lent.{HasEntry, WordEntries};
 ghost use Rattle.page_table.specs.Span.{Reads};
 use units::ENTRY_NUMBERS;
 use units::Page;
@@ -117,44 +116,4 @@ pub fn span_with_word(table: &[u32], w: Word) -> Span
     let page = w.page();
     let start = span_of_page(table, page);
     span_at(table, start)
-}
-
-// How many pages from page g on are free, up to the first that is not.
-fn run_length(p: usize, table: &[u32], g: Page) -> usize
-    requires { ⌜ PageTable p (now table) × (g .0 ≤ p) ⌝ }
-    ensures { λ r. ⌜ r ≡ runLength p (now (table .entry)) (g .0) ⌝ }
-{
-    let first = g.0;
-    let mut k = first;
-    while k < p {
-        if table[ENTRY_NUMBERS * k] != 0 {
-            return k - first;
-        }
-        k += 1;
-    }
-    p - first
-}
-
-// The first page of the shortest maximal run of at least n free pages, the lowest among equals, or
-// p. In the loop no free page stands before page g. One turn passes g's run and the page that ends
-// it, so each page is read once.
-pub fn best_run(p: usize, table: &[u32], n: usize) -> Page
-    requires { ⌜ PageTable p (now table) × (0 < n) ⌝ }
-    ensures { λ r. ⌜ r .0 ≡ bestRun p (now (table .entry)) n ⌝ }
-{
-    let mut g = 0;
-    let mut best = p;
-    let mut least = p + 1;
-    while g < p {
-        let at = g;
-        let l = run_length(p, table, Page(at));
-        g = at + l + 1;
-        if n <= l {
-            if l < least {
-                best = at;
-                least = l;
-            }
-        }
-    }
-    Page(best)
 }

@@ -75,7 +75,7 @@ fn find(p: usize, table: &[u32], bits: &[u64], roots: &[u64], shape: Shape) -> R
             shape: shape,
         };
     }
-    let page = page_table::best_run(p, table, shape.pages);
+    let page = page_runs::best_run(p, table, shape.pages);
     if page.0 < p {
         return RecordPlace {
             refusal: 0,

@@ -1,3 +1,4 @@
+-- `page_table::kind_entry` meets its contract.
 use borrow.Author.Needs.{needs}
 use Rattle.model.specs.Spans.{kindEntry}
 use Rattle.page_table.proofs.kind_entry.Statement.{statement}

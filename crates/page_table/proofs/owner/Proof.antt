@@ -1,3 +1,4 @@
+-- `page_table::owner` meets its contract.
 use borrow.Author.Needs.{needs}
 use Rattle.model.specs.Spans.{owner}
 use Rattle.page_table.proofs.owner.Statement.{statement}

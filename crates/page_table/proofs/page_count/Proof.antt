@@ -1,3 +1,4 @@
+-- `page_table::page_count` meets its contract.
 use borrow.Author.Needs.{needs}
 use Rattle.model.specs.Spans.{pageCount}
 use Rattle.page_table.proofs.page_count.Statement.{statement}

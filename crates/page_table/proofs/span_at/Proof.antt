@@ -1,4 +1,4 @@
--- A page count of the table fits 32 bits.
+-- `page_table::span_at` meets its contract. A page count of the table fits 32 bits.
 use Prim.Native.Nat.{_+_, _*_}
 use mathlib.Core.Path.{refl}
 use native.Mathlib.Omega.{arith}

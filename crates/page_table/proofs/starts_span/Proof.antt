@@ -1,3 +1,4 @@
+-- `page_table::starts_span` meets its contract.
 use borrow.Author.Needs.{needs}
 use Rattle.page_table.proofs.starts_span.Statement.{statement}
 use Rattle.page_table.proofs.starts_span.Tie as tie

@@ -9,7 +9,7 @@ use borrow.Author.Tests.{ltb-true, ltb-false, eqb-true, eqb-false, le-leb, lt-le
 use Rattle.model.specs.Spans.{isFree}
 use Rattle.model.specs.Allocate.{runLength, isRun, bestRun}
 use Rattle.model.proofs.Tests.{clash}
-use Rattle.page_table.proofs.Allocate.{run-within, run-free, run-end, best-is}
+use Rattle.page_runs.proofs.Allocate.{run-within, run-free, run-end, best-is}
 
 -- a run of free pages may start at page g: no free page stands before it
 abbrev pub RunMayStart : List ℕ → ℕ → Type 0

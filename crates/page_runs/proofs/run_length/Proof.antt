@@ -1,4 +1,4 @@
--- The invariant: the pages from g up to k are free.
+-- `page_runs::run_length` meets its contract. The invariant: the pages from g up to k are free.
 use Prim.Native.Nat.{ℕ, _≤_, _<_, _-_}
 use mathlib.Core.Bool.{true}
 use mathlib.Core.Path.{_≡_}
@@ -6,10 +6,10 @@ use native.Mathlib.Omega.{arith}
 use borrow.Author.Count.{below-more}
 use borrow.Author.Tests.{eq-eqb, ne-eqb}
 use Rattle.model.specs.Spans.{owner, isFree}
-use Rattle.page_table.proofs.Allocate.{run-is}
+use Rattle.page_runs.proofs.Allocate.{run-is}
 use borrow.Author.Needs.{needs}
-use Rattle.page_table.proofs.run_length.Statement.{statement}
-use Rattle.page_table.proofs.run_length.Tie as tie
+use Rattle.page_runs.proofs.run_length.Statement.{statement}
+use Rattle.page_runs.proofs.run_length.Tie as tie
 
 abbrev Inv-loop : tie.InvT-loop
 Inv-loop p table g k₀ k = (g ≤ k) × (k ≤ p) × ((j : ℕ) → j < k → g ≤ j → isFree table j ≡ true)

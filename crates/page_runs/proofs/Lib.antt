@@ -1,2 +1,2 @@
 pub mod Allocate
-pub mod Runs
+mod Runs

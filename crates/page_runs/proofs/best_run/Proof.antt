@@ -1,12 +1,12 @@
--- The invariant: the best of the runs that start below page g is known.
+-- `page_runs::best_run` meets its contract. The invariant: the best of the runs that start below page g is known.
 use Prim.Native.Nat.{_-_}
 use native.Mathlib.Omega.{arith}
 use Rattle.model.proofs.Tests.{clash}
-use Rattle.page_table.proofs.Allocate.{run-within}
-use Rattle.page_table.proofs.Runs.{SoFar, none-yet, worse, better, too-short, ended}
+use Rattle.page_runs.proofs.Allocate.{run-within}
+use Rattle.page_runs.proofs.Runs.{SoFar, none-yet, worse, better, too-short, ended}
 use borrow.Author.Needs.{needs}
-use Rattle.page_table.proofs.best_run.Statement.{statement}
-use Rattle.page_table.proofs.best_run.Tie as tie
+use Rattle.page_runs.proofs.best_run.Statement.{statement}
+use Rattle.page_runs.proofs.best_run.Tie as tie
 
 abbrev Inv-loop : tie.InvT-loop
 Inv-loop p table n g₀ best₀ least₀ g best least = SoFar p table n g best least
