@@ -7,7 +7,7 @@ use native.Mathlib.Omega.{arith}
 use lib.Bits.{bitAnd}
 use lib.Dec.{T, ltb, leb}
 use lib.ListN.{getD}
-use Rattle.model.specs.Memory.{pageBlocks}
+use Rattle.model.specs.Memory.{pageBlocks, markedPart, grayPart, pointerPart}
 use Rattle.model.specs.Bounded.{_implies_, allBelow}
 use Rattle.model.specs.Bitmaps.{allocated, marked, gray, pointer}
 use Rattle.model.proofs.Tests.{and-iff, same-test, is-true}
@@ -52,10 +52,10 @@ module _ (P : ℕ) (b : List ℕ) (at starts off left before : ℕ) (allowed : A
   module _ (h : at < pageBlocks * P) (marks grays scans : ℕ) (ms : marks ≡ cond (allowed .marks) (2 ^ 64 - 1) 0) (gs : grays ≡ cond (allowed .grays) (2 ^ 64 - 1) 0)
       (ps : scans ≡ cond (allowed .pointers) (2 ^ 64 - 1) 0) (first inside : ℕ) (fs : (j : ℕ) → j < 64 → on first j ≡ (leb off j && on starts (j - off))) (is : (j : ℕ) → j < 64 → on inside j ≡ ltb j left) where
     abbrev colours : ℕ → Bool
-    colours = rule (getD b at 0) (getD b (1 * (pageBlocks * P) + at) 0) (getD b (2 * (pageBlocks * P) + at) 0) (bitAnd first inside) marks grays
+    colours = rule (getD b at 0) (getD b (markedPart * (pageBlocks * P) + at) 0) (getD b (grayPart * (pageBlocks * P) + at) 0) (bitAnd first inside) marks grays
 
     abbrev pointers : ℕ → Bool
-    pointers = pointerRule (bitAnd (getD b at 0) scans) (getD b (3 * (pageBlocks * P) + at) 0) (bitAnd first inside) (bitAnd inside scans) before
+    pointers = pointerRule (bitAnd (getD b at 0) scans) (getD b (pointerPart * (pageBlocks * P) + at) 0) (bitAnd first inside) (bitAnd inside scans) before
 
     on-marks : (j : ℕ) → j < 64 → on marks j ≡ allowed .marks
     on-marks j l = rw ms (on-flag (allowed .marks) j l)

@@ -8,7 +8,7 @@ use lib.Bits.{bitOr, or-lt}
 use lib.Dec.{eqb, ltb, leb}
 use lib.ListN.{getD}
 use borrow.Author.Tests.{leb-true, leb-false, lt-ltb, le-ltb}
-use Rattle.model.specs.Memory.{pageWords, pageBlocks}
+use Rattle.model.specs.Memory.{pageWords, pageBlocks, markedPart, grayPart, pointerPart}
 use Rattle.model.specs.Bounded.{allBelow}
 use Rattle.model.specs.Bitmaps.{bitOf, bitAt, Part, allocated, marked, gray, pointer, place}
 use Rattle.model.proofs.Bitmaps.{bit-none, bit-in, bit-shifted, bit-all}
@@ -60,18 +60,18 @@ module _ (P : ℕ) (b : List ℕ) (at : ℕ) (h : at < pageBlocks * P) where
   pub allocated-on : (j : ℕ) → j < 64 → on (getD b at 0) j ≡ bit P allocated b (64 * at + j)
   allocated-on j l = part-on allocated at j l (omega arith)
 
-  pub marked-on : (j : ℕ) → j < 64 → on (getD b (1 * (pageBlocks * P) + at) 0) j ≡ bit P marked b (64 * at + j)
-  marked-on j l = part-on marked (1 * (pageBlocks * P) + at) j l (omega arith)
+  pub marked-on : (j : ℕ) → j < 64 → on (getD b (markedPart * (pageBlocks * P) + at) 0) j ≡ bit P marked b (64 * at + j)
+  marked-on j l = part-on marked (markedPart * (pageBlocks * P) + at) j l (omega arith)
 
-  pub gray-on : (j : ℕ) → j < 64 → on (getD b (2 * (pageBlocks * P) + at) 0) j ≡ bit P gray b (64 * at + j)
-  gray-on j l = part-on gray (2 * (pageBlocks * P) + at) j l (omega arith)
+  pub gray-on : (j : ℕ) → j < 64 → on (getD b (grayPart * (pageBlocks * P) + at) 0) j ≡ bit P gray b (64 * at + j)
+  gray-on j l = part-on gray (grayPart * (pageBlocks * P) + at) j l (omega arith)
 
-  pub pointer-on : (j : ℕ) → j < 64 → on (getD b (3 * (pageBlocks * P) + at) 0) j ≡ bit P pointer b (64 * at + j)
-  pointer-on j l = part-on pointer (3 * (pageBlocks * P) + at) j l (omega arith)
+  pub pointer-on : (j : ℕ) → j < 64 → on (getD b (pointerPart * (pageBlocks * P) + at) 0) j ≡ bit P pointer b (64 * at + j)
+  pointer-on j l = part-on pointer (pointerPart * (pageBlocks * P) + at) j l (omega arith)
 
   pub empty-block : ((i : ℕ) → getD b i 0 < 2 ^ 64) →
-      eqb (bitOr (bitOr (bitOr (getD b at 0) (getD b (1 * (pageBlocks * P) + at) 0)) (getD b (2 * (pageBlocks * P) + at) 0)) (getD b (3 * (pageBlocks * P) + at) 0)) 0 ≡ allBelow 64 (λ j. bare P b (64 * at + j))
+      eqb (bitOr (bitOr (bitOr (getD b at 0) (getD b (markedPart * (pageBlocks * P) + at) 0)) (getD b (grayPart * (pageBlocks * P) + at) 0)) (getD b (pointerPart * (pageBlocks * P) + at) 0)) 0 ≡ allBelow 64 (λ j. bare P b (64 * at + j))
   unfolding bare
   empty-block f =
-      zero-word _ (or-lt 64 _ _ (or-lt 64 _ _ (or-lt 64 _ _ (f at) (f (1 * (pageBlocks * P) + at))) (f (2 * (pageBlocks * P) + at))) (f (3 * (pageBlocks * P) + at)))
+      zero-word _ (or-lt 64 _ _ (or-lt 64 _ _ (or-lt 64 _ _ (f at) (f (markedPart * (pageBlocks * P) + at))) (f (grayPart * (pageBlocks * P) + at))) (f (pointerPart * (pageBlocks * P) + at)))
       ∙ all-cong 64 _ (λ j. bare P b (64 * at + j)) (λ j l. simp (on-or, not-or, allocated-on j l, marked-on j l, gray-on j l, pointer-on j l))

@@ -8,7 +8,7 @@ use native.Mathlib.Nat.{zero-mod, add-mod-mod}
 use lib.Dec.{T, eqb, ltb, leb}
 use lib.ListN.{getD}
 use borrow.Author.Tests.{ltb-true, ltb-false, lt-ltb, le-ltb, eqb-true, eqb-false}
-use Rattle.model.specs.Memory.{pageWords, pageBlocks}
+use Rattle.model.specs.Memory.{pageWords, pageBlocks, pointerPart}
 use Rattle.model.specs.Bounded.{allBelow}
 use Rattle.model.specs.Bitmaps.{bitOf, pointer}
 use Rattle.model.proofs.Tests.{is-true, of-true}
@@ -104,7 +104,7 @@ module _ (P : ℕ) (b : List ℕ) (s size held : ℕ) (allowed : Allowed) where
 
       pub stands-next : pageBlocks * s + k < pageBlocks * P → (r : ℕ) → r < size → (r + 64) % size ≡ off → {ok : Bool} →
           ok ≡ allBelow 64 (λ j. wordRule P b (pageWords * s) size held allowed (64 * k + j)) → ok ≡ true →
-          Stands P b s size held allowed (k + 1) r (left - 64) (getD b ((3 * (pageBlocks * P) + pageBlocks * s) + k) 0 / 2 ^ 63)
+          Stands P b s size held allowed (k + 1) r (left - 64) (getD b ((pointerPart * (pageBlocks * P) + pageBlocks * s) + k) 0 / 2 ^ 63)
       stands-next h r l o e p = record {
         near = l;
         start = again;
@@ -118,7 +118,7 @@ module _ (P : ℕ) (b : List ℕ) (s size held : ℕ) (allowed : Allowed) where
               let e : 64 * (k + 1) + r ≡ 64 * k + (r + 64) = omega arith in
               rw (e, ← add-mod-mod (64 * k) (r + 64) size, o) (x .start)
 
-          last : on (getD b ((3 * (pageBlocks * P) + pageBlocks * s) + k) 0 / 2 ^ 63) 0 ≡ (ltb 0 (64 * (k + 1)) && bit P pointer b (pageWords * s + (64 * (k + 1) - 1)))
+          last : on (getD b ((pointerPart * (pageBlocks * P) + pageBlocks * s) + k) 0 / 2 ^ 63) 0 ≡ (ltb 0 (64 * (k + 1)) && bit P pointer b (pageWords * s + (64 * (k + 1) - 1)))
           last =
               let e : 64 * (pageBlocks * s + k) + 63 ≡ pageWords * s + (64 * (k + 1) - 1) = omega arith in
-              rw (lt-ltb 0 (64 * (k + 1)) (omega arith), ← e) (top-on (getD b ((3 * (pageBlocks * P) + pageBlocks * s) + k) 0) ∙ part-on P b (pageBlocks * s + k) h pointer ((3 * (pageBlocks * P) + pageBlocks * s) + k) 63 (omega arith) (omega arith))
+              rw (lt-ltb 0 (64 * (k + 1)) (omega arith), ← e) (top-on (getD b ((pointerPart * (pageBlocks * P) + pageBlocks * s) + k) 0) ∙ part-on P b (pageBlocks * s + k) h pointer ((pointerPart * (pageBlocks * P) + pageBlocks * s) + k) 63 (omega arith) (omega arith))

@@ -7,7 +7,7 @@ use mathlib.Core.Path.{_≡_, refl, sym, _∙_}
 use native.Mathlib.Omega.{arith}
 use lib.Dec.{T, eqb, leb}
 use borrow.Author.Tests.{eqb-true, eqb-false}
-use Rattle.model.specs.Memory.{addressOf, wordOf, pageWords, unsweptFlag}
+use Rattle.model.specs.Memory.{addressOf, wordOf, pageWords, unsweptFlag, markedPart}
 use Rattle.model.specs.Bitmaps.{bitAt, allocated, marked}
 use Rattle.model.specs.Spans.{owner, kindEntry, isUnswept, spanOf}
 use Rattle.model.proofs.Bitmaps.{bit-in, bit-inside}
@@ -28,7 +28,7 @@ span-below {p} {t} F w l = go (eqb (owner t (w / pageWords)) 0) refl
 pub kept-is : (p : ℕ) (t b : List ℕ) (s w from : ℕ) → spanOf t w ≡ s → from ≡ keptFrom p (isUnswept t s) → w < pageWords * p → bitAt b (from + w) ≡ keptAt p t b w
 kept-is p t b s w from e f l = rw (f, ← e) (go (leb unsweptFlag (kindEntry t (spanOf t w))))
   where
-    go : (u : Bool) → bitAt b (cond u (pageWords * p) 0 + w) ≡ cond u (bit p marked b w) (bit p allocated b w)
+    go : (u : Bool) → bitAt b (cond u (markedPart * (pageWords * p)) 0 + w) ≡ cond u (bit p marked b w) (bit p allocated b w)
     go true = sym (bit-in (pageWords * p) marked b w l)
     go false = let z : 0 + w ≡ w = omega arith in rw z (sym (bit-in (pageWords * p) allocated b w l))
 

@@ -4,7 +4,7 @@ use mathlib.Core.Bool.{Bool, true, cond}
 use mathlib.Core.List.{List}
 use mathlib.Core.Path.{_≡_}
 use lib.ListN.{getD}
-use Rattle.model.specs.Memory.{pageWords}
+use Rattle.model.specs.Memory.{pageWords, markedPart}
 use Rattle.model.specs.Facts.{Reference}
 use Rattle.model.specs.Lent.{AllSwept}
 
@@ -14,7 +14,7 @@ Told swept t = swept ≡ true → AllSwept t
 
 -- the bit at which the part starts that says which elements of a span are kept: marked in an unswept one, else allocated
 abbrev pub keptFrom : ℕ → Bool → ℕ
-keptFrom p unswept = cond unswept (pageWords * p) 0
+keptFrom p unswept = cond unswept (markedPart * (pageWords * p)) 0
 
 -- the roots from `from` on and before `to` are references
 abbrev pub RootRange : ℕ → List ℕ → List ℕ → List ℕ → ℕ → ℕ → Type 0

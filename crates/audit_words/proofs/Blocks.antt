@@ -11,7 +11,7 @@ use lib.Dec.{T, eqb, ltb}
 use lib.ListN.{getD}
 use lib.Pow.{pow-pos}
 use borrow.Author.Tests.{ltb-true, ltb-false, lt-leb, leb-false, eqb-true, eqb-false}
-use Rattle.model.specs.Memory.{pageWords, pageBlocks, unsweptFlag}
+use Rattle.model.specs.Memory.{pageWords, pageBlocks, unsweptFlag, pointerPart}
 use Rattle.model.specs.Bitmaps.{bitOf, bitAt, withBitOf, allocated, pointer}
 use Rattle.model.specs.Spans.{pageCount, kindEntry, spanOf, elementOf, elementWords}
 use Rattle.model.proofs.Tests.{is-true, clash}
@@ -99,15 +99,15 @@ module _ (p : ℕ) (a t b : List ℕ) (at pointers : ℕ) where
       go (inr y) = y
 
 -- the pointer bits of block `at` are one bitmap word
-block-bit : (p : ℕ) (b : List ℕ) (at j : ℕ) → at < pageBlocks * p → j < 64 → bit p pointer b (64 * at + j) ≡ eqb (bitOf (getD b (3 * (pageBlocks * p) + at) 0) j) 1
+block-bit : (p : ℕ) (b : List ℕ) (at j : ℕ) → at < pageBlocks * p → j < 64 → bit p pointer b (64 * at + j) ≡ eqb (bitOf (getD b (pointerPart * (pageBlocks * p) + at) 0) j) 1
 unfolding bitAt
 block-bit p b at j h l =
-    let d : (3 * (pageWords * p) + (64 * at + j)) / 64 ≡ 3 * (pageBlocks * p) + at = omega arith in
-    let m : (3 * (pageWords * p) + (64 * at + j)) % 64 ≡ j = omega arith in
+    let d : (pointerPart * (pageWords * p) + (64 * at + j)) / 64 ≡ pointerPart * (pageBlocks * p) + at = omega arith in
+    let m : (pointerPart * (pageWords * p) + (64 * at + j)) % 64 ≡ j = omega arith in
     bit-in (pageWords * p) pointer b (64 * at + j) (omega arith) ∙ rw (d, m)
 
 module _ (p : ℕ) (a t b : List ℕ) where
-  pub blocks-more : (from k : ℕ) → k < pageBlocks * p → BlocksContents p a t b from k → BlockContents p a t b k (getD b (3 * (pageBlocks * p) + k) 0) → BlocksContents p a t b from (k + 1)
+  pub blocks-more : (from k : ℕ) → k < pageBlocks * p → BlocksContents p a t b from k → BlockContents p a t b k (getD b (pointerPart * (pageBlocks * p) + k) 0) → BlocksContents p a t b from (k + 1)
   blocks-more from k h B C w l m x = go (ltb w (64 * k)) refl
     where
       go : (c : Bool) → ltb w (64 * k) ≡ c → Reference p t b (getD a w 0)
@@ -118,7 +118,7 @@ module _ (p : ℕ) (a t b : List ℕ) where
           let y : T (bit p pointer b (64 * k + (w - 64 * k))) = rw z x in
           rw z at (C (w - 64 * k) (omega arith) (rw (block-bit p b k (w - 64 * k) h (omega arith)) at y))
 
-  pub blocks-block : (from to k : ℕ) → from ≤ k → k < to → to ≤ pageBlocks * p → BlocksContents p a t b from to → BlockContents p a t b k (getD b (3 * (pageBlocks * p) + k) 0)
+  pub blocks-block : (from to k : ℕ) → from ≤ k → k < to → to ≤ pageBlocks * p → BlocksContents p a t b from to → BlockContents p a t b k (getD b (pointerPart * (pageBlocks * p) + k) 0)
   blocks-block from to k l m h B j n x = B (64 * k + j) (omega arith) (omega arith) (rw (block-bit p b k j (omega arith) n) x)
 
 module _ (p : ℕ) (a t b : List ℕ) (F : Filled p a t b) where

@@ -9,7 +9,7 @@ use lib.Dec.{T, eqb, ltb}
 use lib.ListN.{getD}
 use borrow.Author.Tests.{ltb-true, ltb-false, eqb-true, eqb-false}
 use Rattle.model.specs.Classes.{rows, mostLarge, elementWordsOf}
-use Rattle.model.specs.Memory.{pageWords}
+use Rattle.model.specs.Memory.{pageWords, pointerPart}
 use Rattle.model.specs.Bounded.{firstBelow}
 use Rattle.model.specs.Bitmaps.{bitAt, pointer}
 use Rattle.model.specs.Spans.{pageCount, isScan, isUnswept, spanOf, elementOf, elementWords}
@@ -27,9 +27,9 @@ use Rattle.audit_references.proofs.References.{kept-is, from-bound}
 use Rattle.audit_words.specs.Contents.{Filled, ElementAt, Pointers, SpanContents, Contents, Searched, ContentsBelow}
 
 -- the pointer bit of word f of an element
-pub pointer-is : (p : ℕ) (b : List ℕ) (w f at : ℕ) → at ≡ 3 * (pageWords * p) + w + f → w + f < pageWords * p → bitAt b at ≡ bit p pointer b (w + f)
+pub pointer-is : (p : ℕ) (b : List ℕ) (w f at : ℕ) → at ≡ pointerPart * (pageWords * p) + w + f → w + f < pageWords * p → bitAt b at ≡ bit p pointer b (w + f)
 pointer-is p b w f at e l =
-    let z : at ≡ 3 * (pageWords * p) + (w + f) = omega arith in
+    let z : at ≡ pointerPart * (pageWords * p) + (w + f) = omega arith in
     rw z (sym (bit-in (pageWords * p) pointer b (w + f) l))
 
 -- where the first set bit from `at` on stands

@@ -6,6 +6,7 @@ use mathlib.Core.List.{List}
 use mathlib.Core.Path.{_≡_, sym, _∙_, ap}
 use native.Mathlib.Omega.{arith}
 use Rattle.model.specs.Bounded.{writeRun, countBelow}
+use Rattle.model.specs.Memory.{markedPart}
 use Rattle.model.specs.Bitmaps.{bitAt, withBit, Part, allocated, marked, gray, pointer, place, bitIn, putBit, putBits}
 use Rattle.model.proofs.Bounded.{count-cong}
 use Rattle.model.proofs.Bitmaps.{Four, bit-in, part-run}
@@ -50,7 +51,7 @@ module _ (n : ℕ) (q r : Part) (w k : ℕ) (b c : List ℕ) (h : w + k ≤ n) (
       ∙ ap (writeRun withBit (place n r w) k (λ i. false)) (writes-cong (putBit n q) w k (bitIn n r b) (bitIn n r c) c same ∙ part-from-part n q r w k c c h))
 
 -- as the sweep says it: the pointer bits of the run change, then allocated becomes marked and marks go
-pub swept-parts : (n w k : ℕ) (g : ℕ → Bool) (b : List ℕ) → w + k ≤ n → Four n b → (to from m : ℕ) → w ≡ to * 64 → n + w ≡ from * 64 → k ≡ m * 64 →
+pub swept-parts : (n w k : ℕ) (g : ℕ → Bool) (b : List ℕ) → w + k ≤ n → Four n b → (to from m : ℕ) → w ≡ to * 64 → markedPart * n + w ≡ from * 64 → k ≡ m * 64 →
     (let c = putBits n pointer w k g b in
     putBits n marked w k (λ i. false) (putBits n allocated w k (bitIn n marked b) c)
     ≡ writeRun withBit (from * 64) (m * 64) (λ i. false) (writeRun withBit (to * 64) (m * 64) (λ i. bitAt c (i - to * 64 + from * 64)) c))

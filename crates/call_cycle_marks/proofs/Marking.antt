@@ -9,7 +9,7 @@ use lib.Dec.{T}
 use lib.ListN.{length, getD}
 use borrow.Author.Tests.{ne-eqb, le-ltb, lt-ltb}
 use Rattle.model.specs.Bounded.{firstBelow}
-use Rattle.model.specs.Memory.{Heap, lent, words, addressOf, phaseAt, mark, pageWords}
+use Rattle.model.specs.Memory.{Heap, lent, words, addressOf, phaseAt, mark, pageWords, grayPart, pointerPart}
 use Rattle.model.specs.Bitmaps.{bitAt, withBit, putBit, is, allocated, gray, pointer}
 use Rattle.model.specs.Classes.{rows}
 use Rattle.model.specs.Spans.{classAt, elementWords, spanOf, pointerCount, kept}
@@ -31,12 +31,12 @@ use Rattle.call_cycle_marks.specs.Needs.{Gray}
 
 -- the search over the gray part of the bitmaps
 pub gray-found : (p : ℕ) (b : List ℕ) {r : ℕ} →
-    r ≡ 2 * (pageWords * p) + firstBelow (2 * (pageWords * p) + pageWords * p - 2 * (pageWords * p)) (λ k. bitAt b (2 * (pageWords * p) + k)) →
-    (a t roots : List ℕ) → r - 2 * (pageWords * p) ≡ firstGray (lent p a t b roots)
+    r ≡ grayPart * (pageWords * p) + firstBelow (grayPart * (pageWords * p) + pageWords * p - grayPart * (pageWords * p)) (λ k. bitAt b (grayPart * (pageWords * p) + k)) →
+    (a t roots : List ℕ) → r - grayPart * (pageWords * p) ≡ firstGray (lent p a t b roots)
 unfolding firstGray
 gray-found p b {r} e a t roots =
-    let n : 2 * (pageWords * p) + pageWords * p - 2 * (pageWords * p) ≡ pageWords * p = omega arith in
-    let f = first-cong (pageWords * p) (λ k. bitAt b (2 * (pageWords * p) + k)) (is gray (lent p a t b roots)) (λ k l. sym (bit-in (pageWords * p) gray b k l)) in
+    let n : grayPart * (pageWords * p) + pageWords * p - grayPart * (pageWords * p) ≡ pageWords * p = omega arith in
+    let f = first-cong (pageWords * p) (λ k. bitAt b (grayPart * (pageWords * p) + k)) (is gray (lent p a t b roots)) (λ k l. sym (bit-in (pageWords * p) gray b k l)) in
     omega (arith, rw n at e, f)
 
 -- where the record at word w lies
@@ -57,11 +57,11 @@ lies {p} {t} {b} {w} R =
 
 -- the search for the end of the run of pointer bits
 pub pointers-found : (p : ℕ) (t b : List ℕ) (w : ℕ) {r size : ℕ} → size ≡ elementWords t (spanOf t w) → w + elementWords t (spanOf t w) ≤ pageWords * p →
-    r ≡ (3 * (pageWords * p) + w) + firstBelow (3 * (pageWords * p) + w + size - (3 * (pageWords * p) + w)) (λ k. not (bitAt b (3 * (pageWords * p) + w + k))) →
-    (a roots : List ℕ) → r - (3 * (pageWords * p) + w) ≡ pointerCount (lent p a t b roots) w
+    r ≡ (pointerPart * (pageWords * p) + w) + firstBelow (pointerPart * (pageWords * p) + w + size - (pointerPart * (pageWords * p) + w)) (λ k. not (bitAt b (pointerPart * (pageWords * p) + w + k))) →
+    (a roots : List ℕ) → r - (pointerPart * (pageWords * p) + w) ≡ pointerCount (lent p a t b roots) w
 pointers-found p t b w {r} {size} z l e a roots =
-    let n : 3 * (pageWords * p) + w + size - (3 * (pageWords * p) + w) ≡ elementWords t (spanOf t w) = omega arith in
-    let f = first-cong (elementWords t (spanOf t w)) (λ k. not (bitAt b (3 * (pageWords * p) + w + k))) (λ k. not (is pointer (lent p a t b roots) (w + k)))
+    let n : pointerPart * (pageWords * p) + w + size - (pointerPart * (pageWords * p) + w) ≡ elementWords t (spanOf t w) = omega arith in
+    let f = first-cong (elementWords t (spanOf t w)) (λ k. not (bitAt b (pointerPart * (pageWords * p) + w + k))) (λ k. not (is pointer (lent p a t b roots) (w + k)))
     (λ k h. ap not (ap (bitAt b) (omega arith) ∙ sym (bit-in (pageWords * p) pointer b (w + k) (omega arith)))) in
     omega (arith, rw n at e, f)
 
@@ -88,7 +88,7 @@ module _ {h : Heap} {w : ℕ} (G : Gray h w) where
       }
 
 -- the gray bit goes, and the pointer words are shaded
-pub record-scanned : (h : Heap) (w : ℕ) {n m : ℕ} {b b' : List ℕ} → n ≡ pointerCount h w → b ≡ withBit (2 * (pageWords * h .pages) + w) false (h .bits) →
+pub record-scanned : (h : Heap) (w : ℕ) {n m : ℕ} {b b' : List ℕ} → n ≡ pointerCount h w → b ≡ withBit (grayPart * (pageWords * h .pages) + w) false (h .bits) →
     ShadesAll (h .pages) (h .table) n (λ i. getD (h .arena) (w + i) 0) b m b' → b' ≡ scanRecord w h
 unfolding scanRecord putBit
 record-scanned h w e f S = S .bits ∙ rw (e, f)

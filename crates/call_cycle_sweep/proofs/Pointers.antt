@@ -8,7 +8,7 @@ use native.Mathlib.Omega.{arith}
 use lib.Dec.{T, eqb}
 use lib.ListN.{length}
 use borrow.Author.Tests.{eqb-true, eqb-false, not-false}
-use Rattle.model.specs.Memory.{pageWords, wordBits}
+use Rattle.model.specs.Memory.{pageWords, wordBits, pointerPart}
 use Rattle.model.specs.Classes.{elementWordsOf}
 use Rattle.model.specs.Bounded.{firstBelow, writeRun}
 use Rattle.model.specs.Bitmaps.{Part, bitAt, withBit, bitIn, putBit, putBits, place, allocated, marked, gray, pointer}
@@ -183,7 +183,7 @@ module _ (p : ℕ) (t b : List ℕ) (s : ℕ) (S : Sweepable p t b s) (fit : Fit
 
   -- the freed element's pointer bits go, and the search goes on behind it
   pub cleared-on : (at : ℕ) (now then : List ℕ) → Cleared p t b s at now → at < pageWords * (s + pageCount t s) →
-      then ≡ writeRun withBit (3 * (pageWords * p) + at) (elementWords t s) (λ i. false) now → (on : ℕ) →
+      then ≡ writeRun withBit (pointerPart * (pageWords * p) + at) (elementWords t s) (λ i. false) now → (on : ℕ) →
       on ≡ (at + elementWords t s) + firstBelow (pageWords * (s + pageCount t s) - (at + elementWords t s)) (λ k. isFreed p then ((at + elementWords t s) + k)) → Cleared p t b s on then
   cleared-on at now then C h e on f =
       let freed = C .next h in
@@ -245,7 +245,7 @@ module _ {p : ℕ} {t b : List ℕ} {s size end : ℕ} (M : Measured p t b s siz
         aligned = omega (arith, M .reach);
       }
 
-  pub loop-next : (at : ℕ) (now then : List ℕ) → Cleared p t b s at now → at < end → then ≡ writeRun withBit (3 * (pageWords * p) + at) size (λ i. false) now →
+  pub loop-next : (at : ℕ) (now then : List ℕ) → Cleared p t b s at now → at < end → then ≡ writeRun withBit (pointerPart * (pageWords * p) + at) size (λ i. false) now →
       (on : ℕ) → on ≡ nextFreed p then (at + size) end → Cleared p t b s on then
   loop-next at now then C l e on f = cleared-on p t b s (M .sweepable) fit at now then C (rw (M .reach) at l) (rw (M .words) at e) on (rw (M .words, M .reach) at f)
 

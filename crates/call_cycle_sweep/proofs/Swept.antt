@@ -9,7 +9,7 @@ use native.Mathlib.Omega.{arith}
 use lib.Dec.{T, eqb}
 use borrow.Author.Tests.{eq-eqb, ne-eqb}
 use Rattle.model.specs.Bounded.{countBelow, writeRun}
-use Rattle.model.specs.Memory.{lent, pageWords, pageBlocks}
+use Rattle.model.specs.Memory.{lent, pageWords, pageBlocks, markedPart}
 use Rattle.model.specs.Bitmaps.{Part, bitAt, withBit, allocated, marked}
 use Rattle.model.specs.Spans.{pageCount, elementWords, elements, elementStart, elementNumber, kindAt, putPage, putPages, spanPage, freePage}
 use Rattle.model.specs.Cycle.{freedCount, nothingLeft, sweptTable, sweptBits}
@@ -25,13 +25,13 @@ use Rattle.call_cycle_sweep.proofs.Pointers.{stays}
 
 module _ (p : ℕ) (t b : List ℕ) (s : ℕ) (S : Sweepable p t b s) where
   -- pointer bits of freed elements went, then words of marks were moved, from word `marks` on
-  pub swept-words : (marks : ℕ) → marks ≡ pageBlocks * p + pageBlocks * s → (c : List ℕ) {then : List ℕ} {n : ℕ} → n ≡ pageCount t s → c ≡ clearedBits p t b s →
+  pub swept-words : (marks : ℕ) → marks ≡ markedPart * (pageBlocks * p) + pageBlocks * s → (c : List ℕ) {then : List ℕ} {n : ℕ} → n ≡ pageCount t s → c ≡ clearedBits p t b s →
       then ≡ writeRun withBit (marks * 64) (pageBlocks * n * 64) (λ i. false)
       (writeRun withBit (pageBlocks * s * 64) (pageBlocks * n * 64) (λ i. bitAt c (i - pageBlocks * s * 64 + marks * 64)) c) →
       (a roots : List ℕ) → then ≡ sweptBits (lent p a t b roots) s
   unfolding sweptBits
   swept-words marks m c k e f a roots =
-      (rw (k, m) at f) ∙ rw e (sym (swept-parts (pageWords * p) (pageWords * s) (pageWords * pageCount t s) (stays p t b s) b (omega (arith, bounds S)) (omega (arith, S .consistent .bits)) (pageBlocks * s) (pageBlocks * p + pageBlocks * s) (pageBlocks * pageCount t s) (omega arith) (omega arith) (omega arith)))
+      (rw (k, m) at f) ∙ rw e (sym (swept-parts (pageWords * p) (pageWords * s) (pageWords * pageCount t s) (stays p t b s) b (omega (arith, bounds S)) (omega (arith, S .consistent .bits)) (pageBlocks * s) (markedPart * (pageBlocks * p) + pageBlocks * s) (pageBlocks * pageCount t s) (omega arith) (omega arith) (omega arith)))
 
   -- the bits of a part that stand at allocated elements alone, counted over the span's words
   module _ (q : Part) (only : (w : ℕ) → T (bit p q b w) → T (bit p allocated b w)) where
@@ -77,7 +77,7 @@ module _ (p : ℕ) (t b : List ℕ) (s : ℕ) (S : Sweepable p t b s) where
     pub freed : (a roots : List ℕ) → all - kept ≡ freedCount (lent p a t b roots) s
     pub left : (a roots : List ℕ) → nothingLeft (lent p a t b roots) s ≡ eqb kept 0
 
-  pub counted : (all kept n marks : ℕ) → n ≡ pageCount t s → marks ≡ pageBlocks * p + pageBlocks * s → all ≡ countBelow (pageBlocks * n * 64) (λ k. bitAt b (pageBlocks * s * 64 + k)) →
+  pub counted : (all kept n marks : ℕ) → n ≡ pageCount t s → marks ≡ markedPart * (pageBlocks * p) + pageBlocks * s → all ≡ countBelow (pageBlocks * n * 64) (λ k. bitAt b (pageBlocks * s * 64 + k)) →
       kept ≡ countBelow (pageBlocks * n * 64) (λ k. bitAt b (marks * 64 + k)) → SpanCounts all kept
   unfolding freedCount nothingLeft
   counted all kept n marks c m e f = record { less = omega (arith, x, y, z); freed = λ a roots. omega (arith, x, y, z); left = λ a roots. none-counted (elements t s) (λ k. bit p marked b (elementStart t s k)) ∙ ap (λ n. eqb n 0) (sym y) }
@@ -90,7 +90,7 @@ module _ (p : ℕ) (t b : List ℕ) (s : ℕ) (S : Sweepable p t b s) where
           (rw (words, first) at e) ∙ sym (part-count (pageWords * p) allocated (pageWords * s) (pageWords * pageCount t s) b (omega (arith, bounds S))) ∙ part-counted allocated (λ w a. a)
 
       y : kept ≡ countBelow (elements t s) (λ k. bit p marked b (elementStart t s k))
-      y = let first : marks * 64 ≡ pageWords * p + pageWords * s = omega (arith, m) in
+      y = let first : marks * 64 ≡ markedPart * (pageWords * p) + pageWords * s = omega (arith, m) in
           (rw (words, first) at f) ∙ sym (part-count (pageWords * p) marked (pageWords * s) (pageWords * pageCount t s) b (omega (arith, bounds S))) ∙ part-counted marked (S .consistent .rules .marks)
 
       z : countBelow (elements t s) (λ k. bit p allocated b (elementStart t s k)) ≡

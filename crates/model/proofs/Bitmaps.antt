@@ -13,6 +13,7 @@ use lib.Pow.{shr-shr, pow-lt, pow-pos, field, mod-mod-pow}
 use lib.Dec.{T, eqb, ltb, leb, eqb·zero-suc, eqb·suc-zero, eqb·suc-suc, leb·zero, leb·suc-zero, leb·suc-suc, ltb→lt}
 use borrow.Author.Tests.{ltb-true, ltb-false, eq-eqb, ne-eqb, eqb-true, eqb-false}
 use Rattle.model.specs.Bounded.{writeRun}
+use Rattle.model.specs.Memory.{markedPart, grayPart, pointerPart}
 use Rattle.model.specs.Bitmaps.{bitOf, withBitOf, bitAt, withBit, Part, allocated, marked, gray, pointer, place, bitIn, putBit, putBits}
 use Rattle.model.proofs.Tests.{and-iff, eqb-shift}
 use Rattle.model.proofs.Bounded.{within, run-read}
@@ -149,16 +150,16 @@ Four n ws = 4 * n ≤ 64 * length ws
 
 abbrev pub partNumber : Part → ℕ
 partNumber allocated = 0
-partNumber marked = 1
-partNumber gray = 2
-partNumber pointer = 3
+partNumber marked = markedPart
+partNumber gray = grayPart
+partNumber pointer = pointerPart
 
 abbrev pub samePart : Part → Part → Bool
 samePart q r = eqb (partNumber q) (partNumber r)
 
 place-is : (n : ℕ) (q : Part) (w : ℕ) → place n q w ≡ partNumber q * n + w
 place-is n allocated w = omega arith
-place-is n marked w = omega arith
+place-is n marked w = refl
 place-is n gray w = refl
 place-is n pointer w = refl
 

@@ -5,7 +5,7 @@ use mathlib.Core.List.{List}
 use lib.ListN.{getD, set}
 use lib.Bits.{bitOr, bitAnd}
 use Rattle.model.specs.Bounded.{_==_, _<?_, writeRun}
-use Rattle.model.specs.Memory.{Heap, words, wordBits}
+use Rattle.model.specs.Memory.{Heap, words, wordBits, markedPart, grayPart, pointerPart}
 
 -- bit k of a word: 1 or 0
 unfoldable pub bitOf : ℕ → ℕ → ℕ
@@ -30,9 +30,9 @@ pub data Part : Type 0 where
 -- "Each part has one bit per arena word": the bit of word w, in the bitmaps of an arena of n words
 abbrev pub place : ℕ → Part → ℕ → ℕ
 place n allocated w = w
-place n marked w = n + w
-place n gray w = 2 * n + w
-place n pointer w = 3 * n + w
+place n marked w = markedPart * n + w
+place n gray w = grayPart * n + w
+place n pointer w = pointerPart * n + w
 
 -- the bit of word w; a word past the arena has none
 unfoldable pub bitIn : ℕ → Part → List ℕ → ℕ → Bool

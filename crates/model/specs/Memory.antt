@@ -46,6 +46,16 @@ wordBits = 64
 abbrev pub pageBlocks : ℕ
 pageBlocks = 16
 
+-- "allocated, marked, gray, pointer": the parts, each by how many stand before it; the allocated one is the first
+abbrev pub markedPart : ℕ
+markedPart = 1
+
+abbrev pub grayPart : ℕ
+grayPart = 2
+
+abbrev pub pointerPart : ℕ
+pointerPart = 3
+
 -- "roots: 562 words."
 abbrev pub rootWords : ℕ
 rootWords = 562

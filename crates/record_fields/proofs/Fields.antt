@@ -10,7 +10,7 @@ use lib.Dec.{ltb}
 use lib.ListN.{getD}
 use borrow.Author.Tests.{ltb-true, ltb-false, lt-ltb, le-ltb, lt-leb, le-leb, not-false}
 use Rattle.model.specs.Bounded.{firstBelow}
-use Rattle.model.specs.Memory.{Heap, lent, wordOf, firstState, pageWords, nil}
+use Rattle.model.specs.Memory.{Heap, lent, wordOf, firstState, pageWords, nil, pointerPart}
 use Rattle.model.specs.Answers.{_given_, badField}
 use Rattle.model.specs.Bitmaps.{bitIn, bitAt, pointer}
 use Rattle.model.specs.Classes.{rows, elementWordsOf}
@@ -30,7 +30,7 @@ use Rattle.record_fields.specs.Fields.{TellsOf}
 use Rattle.record_fields.specs.declared.Field.the-variants.{Pointer, Number, Refused}
 
 -- the bit of a word of the arena
-in-arena : (n : ℕ) (b : List ℕ) (w : ℕ) → w < n → bitIn n pointer b w ≡ bitAt b (3 * n + w)
+in-arena : (n : ℕ) (b : List ℕ) (w : ℕ) → w < n → bitIn n pointer b w ≡ bitAt b (pointerPart * n + w)
 unfolding bitIn
 in-arena n b w l = rw (lt-ltb w n l)
 
@@ -81,14 +81,14 @@ module _ {p : ℕ} {t b : List ℕ} {w : ℕ} (R : Consistent p t b × Element t
         (rw (le-leb (pointerWords p t b w) f k), rw (le-leb (elementWords t (spanOf t w)) f l, or-true (ltb f (pointerWords p t b w))), λ z. omega arith)
 
     module _ (l : f < elementWords t (spanOf t w)) (v : Word) (e : v .0 ≡ w + f) where
-      in-part : (m : Bool) → bitAt b (3 * (pageWords * p) + (w + f)) ≡ m → bit p pointer b (w + f) ≡ m
+      in-part : (m : Bool) → bitAt b (pointerPart * (pageWords * p) + (w + f)) ≡ m → bit p pointer b (w + f) ≡ m
       in-part m x = in-arena (pageWords * p) b (w + f) (omega (arith, fits)) ∙ x
 
-      pub pointer-there : bitAt b (3 * (pageWords * p) + (w + f)) ≡ true → TellsOf (lent p a t b r) w f (Pointer v)
+      pub pointer-there : bitAt b (pointerPart * (pageWords * p) + (w + f)) ≡ true → TellsOf (lent p a t b r) w f (Pointer v)
       unfolding _given_
       pointer-there x = let k = on f l (in-part true x) in (rw (lt-leb (pointerWords p t b w) f k), rw (lt-ltb f (pointerWords p t b w) k), e)
 
-      pub number-there : bitAt b (3 * (pageWords * p) + (w + f)) ≡ false → TellsOf (lent p a t b r) w f (Number v)
+      pub number-there : bitAt b (pointerPart * (pageWords * p) + (w + f)) ≡ false → TellsOf (lent p a t b r) w f (Number v)
       unfolding _given_
       number-there x =
           let k = off f (in-part false x) in

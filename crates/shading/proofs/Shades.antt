@@ -9,7 +9,7 @@ use native.Mathlib.Omega.{arith}
 use lib.Dec.{eqb}
 use lib.ListN.{getD}
 use borrow.Author.Tests.{eq-eqb, ne-eqb, lt-ltb}
-use Rattle.model.specs.Memory.{wordOf, lent, phaseAt, mark, pageWords, nil}
+use Rattle.model.specs.Memory.{wordOf, lent, phaseAt, mark, pageWords, nil, markedPart, grayPart}
 use Rattle.model.specs.Bitmaps.{bitAt, withBit, bitIn, putBit, marked}
 use Rattle.model.specs.Spans.{isScan, spanOf}
 use Rattle.model.specs.Shading.{isWhite, shade, shadeAll, shadeCount, barrier}
@@ -25,28 +25,25 @@ black p t v b e = record { count = rw e; bits = rw e }
 pub nil-shades : (p : ℕ) (t : List ℕ) (v : ℕ) (b : List ℕ) → v ≡ nil → Shades p t v b 0 b
 nil-shades p t v b e = black p t v b (rw (eq-eqb v nil e))
 
--- a value that names the record at word w; the code counts the parts before the marked one, which is one
+-- a value that names the record at word w
 module _ (p : ℕ) (t : List ℕ) (v : ℕ) (b : List ℕ) (named : NamesRecord p t v) {w : ℕ} (e : w ≡ wordOf v) where
-  one-part : 1 * (pageWords * p) + w ≡ pageWords * p + w
-  one-part = omega arith
-
-  white-is : (m : Bool) → bitAt b (1 * (pageWords * p) + w) ≡ m → bitIn (pageWords * p) marked b (wordOf v) ≡ m
+  white-is : (m : Bool) → bitAt b (markedPart * (pageWords * p) + w) ≡ m → bitIn (pageWords * p) marked b (wordOf v) ≡ m
   unfolding bitIn
-  white-is m x = rw (← e) (rw (lt-ltb w (pageWords * p) (omega (arith, named .word))) (rw one-part at x))
+  white-is m x = rw (← e) (rw (lt-ltb w (pageWords * p) (omega (arith, named .word))) x)
 
-  pub marked-shades : bitAt b (1 * (pageWords * p) + w) ≡ true → Shades p t v b 0 b
+  pub marked-shades : bitAt b (markedPart * (pageWords * p) + w) ≡ true → Shades p t v b 0 b
   marked-shades x = black p t v b (rw (white-is true x) (and-false (not (eqb v nil))))
 
-  module _ (d : v ≢ nil) (x : bitAt b (1 * (pageWords * p) + w) ≡ false) where
+  module _ (d : v ≢ nil) (x : bitAt b (markedPart * (pageWords * p) + w) ≡ false) where
     -- a white record in a noscan span
-    pub noscan-shades : isScan t (spanOf t w) ≡ false → {b' : List ℕ} → b' ≡ withBit (1 * (pageWords * p) + w) true b → Shades p t v b 1 b'
+    pub noscan-shades : isScan t (spanOf t w) ≡ false → {b' : List ℕ} → b' ≡ withBit (markedPart * (pageWords * p) + w) true b → Shades p t v b 1 b'
     unfolding shade putBit
-    noscan-shades s f = record { count = rw (ne-eqb v nil d, white-is false x); bits = rw (ne-eqb v nil d, white-is false x, ← e, s, f, one-part) }
+    noscan-shades s f = record { count = rw (ne-eqb v nil d, white-is false x); bits = rw (ne-eqb v nil d, white-is false x, ← e, s, f) }
 
     -- .. in a scan span
-    pub scan-shades : isScan t (spanOf t w) ≡ true → {b' b'' : List ℕ} → b' ≡ withBit (1 * (pageWords * p) + w) true b → b'' ≡ withBit (2 * (pageWords * p) + w) true b' → Shades p t v b 1 b''
+    pub scan-shades : isScan t (spanOf t w) ≡ true → {b' b'' : List ℕ} → b' ≡ withBit (markedPart * (pageWords * p) + w) true b → b'' ≡ withBit (grayPart * (pageWords * p) + w) true b' → Shades p t v b 1 b''
     unfolding shade putBit
-    scan-shades s f g = record { count = rw (ne-eqb v nil d, white-is false x); bits = rw (ne-eqb v nil d, white-is false x, ← e, s, g, f, one-part) }
+    scan-shades s f g = record { count = rw (ne-eqb v nil d, white-is false x); bits = rw (ne-eqb v nil d, white-is false x, ← e, s, g, f) }
 
 -- the barrier outside the mark phase, and in it
 pub no-barrier : (p : ℕ) (a t b r : List ℕ) (old new : ℕ) → getD r phaseAt 0 ≢ mark → b ≡ barrier (lent p a t b r) old new

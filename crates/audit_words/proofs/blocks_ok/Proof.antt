@@ -1,5 +1,5 @@
 -- The invariant: the pointer words of the blocks below k hold references.
-use Rattle.model.specs.Memory.{pageBlocks}
+use Rattle.model.specs.Memory.{pageBlocks, pointerPart}
 use Rattle.audit_words.proofs.Blocks.{blocks-more, blocks-block}
 use Rattle.audit_words.specs.Contents.{BlocksContents}
 use Rattle.model.proofs.Answers.{yes, no}
@@ -12,7 +12,7 @@ use Rattle.audit_words.proofs.blocks_ok.Statement.{statement}
 use Rattle.audit_words.proofs.blocks_ok.Tie as tie
 
 abbrev Inv-loop : tie.InvT-loop
-Inv-loop p arena table bits swept from to part k₀ k = (from ≤ k) × (k ≤ to) × (part ≡ 3 * (pageBlocks * p)) × BlocksContents p arena table bits from k
+Inv-loop p arena table bits swept from to part k₀ k = (from ≤ k) × (k ≤ to) × (part ≡ pointerPart * (pageBlocks * p)) × BlocksContents p arena table bits from k
 
 abbrev μ-loop : tie.MeasureT-loop
 μ-loop p arena table bits swept from to part k₀ k = to - k

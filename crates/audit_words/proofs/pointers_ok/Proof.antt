@@ -1,5 +1,5 @@
 -- The invariant: the words below f are pointers and hold references.
-use Rattle.model.specs.Memory.{pageWords}
+use Rattle.model.specs.Memory.{pageWords, pointerPart}
 use Rattle.audit_words.proofs.Contents.{pointer-is, stopped}
 use Rattle.model.specs.Facts.{Reference, bit}
 use Rattle.model.proofs.Tests.{is-true}
@@ -18,7 +18,7 @@ use Rattle.audit_words.proofs.pointers_ok.Statement.{statement}
 use Rattle.audit_words.proofs.pointers_ok.Tie as tie
 
 abbrev Inv-loop : tie.InvT-loop
-Inv-loop p arena table bits n start first f₀ f = (f ≤ n) × (first ≡ 3 * (pageWords * p) + start) × ((k : ℕ) → k < f → T (bit p pointer bits (start + k)) × Reference p table bits (getD arena (start + k) 0))
+Inv-loop p arena table bits n start first f₀ f = (f ≤ n) × (first ≡ pointerPart * (pageWords * p) + start) × ((k : ℕ) → k < f → T (bit p pointer bits (start + k)) × Reference p table bits (getD arena (start + k) 0))
 
 abbrev μ-loop : tie.MeasureT-loop
 μ-loop p arena table bits n start first f₀ f = n - f

@@ -5,7 +5,7 @@ use lib.Bits.{bitAnd}
 use lib.Count.{trailingZeros}
 use lib.ListN.{getD}
 use denote.Ref.{now}
-use Rattle.model.specs.Memory.{pageBlocks}
+use Rattle.model.specs.Memory.{pageBlocks, markedPart}
 use Rattle.bitmap.proofs.Bits.{trailing-fits}
 use Rattle.bitmap.proofs.Scan.{None, Passed, whole-word}
 use Rattle.bitmap.proofs.Search.{Masked, masked-first, masked-next, passFrom, none-passed, found, none-found}
@@ -33,12 +33,12 @@ seen : (c : tie.After-shared-slice-known2 Inv-loop μ-loop) →
     let a = start (turn c) .args in
     let b = now (a .bits) in
     let at = turn c .loop .at in
-    let word = bitAnd (bitAnd (getD b at 0) ((2 ^ 64 - 1) - getD b (1 * (pageBlocks * a .p) + at) 0)) (turn c .loop .mask) in
+    let word = bitAnd (bitAnd (getD b at 0) ((2 ^ 64 - 1) - getD b (markedPart * (pageBlocks * a .p) + at) 0)) (turn c .loop .mask) in
     Passed (passFrom (isFreed (a .p) b) (a .from .0)) at (trailingZeros 64 word)
 seen c =
     let a = start (turn c) .args in
     let i = turn c .loop .inv in
-    scan-freed (a .p) (now (a .bits)) (λ x. c .before .shared-slice-known .given x .fits) (1 * (pageBlocks * a .p)) (omega arith) (omega arith) (i .0) (i .1)
+    scan-freed (a .p) (now (a .bits)) (λ x. c .before .shared-slice-known .given x .fits) (markedPart * (pageBlocks * a .p)) (omega arith) (omega arith) (i .0) (i .1)
 
 loop-holds : tie.Need-loop-holds Inv-loop μ-loop
 loop-holds c = let a = c .before .args in (masked-first (a .from .0), none-passed (isFreed (a .p) (now (a .bits))) (a .from .0))
