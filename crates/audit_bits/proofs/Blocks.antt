@@ -7,7 +7,7 @@ use native.Mathlib.Omega.{arith}
 use lib.Bits.{bitAnd}
 use lib.Dec.{T, ltb, leb}
 use lib.ListN.{getD}
-use Rattle.model.specs.Memory.{pageBlocks, markedPart, grayPart, pointerPart}
+use Rattle.model.specs.Memory.{wordBits, pageBlocks, markedPart, grayPart, pointerPart}
 use Rattle.model.specs.Bounded.{_implies_, allBelow}
 use Rattle.model.specs.Bitmaps.{allocated, marked, gray, pointer}
 use Rattle.model.proofs.Tests.{and-iff, same-test, is-true}
@@ -43,11 +43,11 @@ bare-keeps false true g q s i mk gr sc f t = absurd t
 bare-keeps true m g q s i mk gr sc f t = absurd t
 
 module _ (P : ℕ) (b : List ℕ) (at starts off left before : ℕ) (allowed : Allowed) where
-  pub empty-keeps : true ≡ allBelow 64 (λ j. bare P b (64 * at + j)) → true ≡ allBelow 64 (blockRule P b at starts off left before allowed)
+  pub empty-keeps : true ≡ allBelow wordBits (λ j. bare P b (wordBits * at + j)) → true ≡ allBelow wordBits (blockRule P b at starts off left before allowed)
   unfolding bare
   empty-keeps e =
-      sym (all-from 64 (blockRule P b at starts off left before allowed)
-      (λ j l. bare-keeps (bit P allocated b (64 * at + j)) (bit P marked b (64 * at + j)) (bit P gray b (64 * at + j)) (bit P pointer b (64 * at + j)) _ _ _ _ _ _ (is-true _ (all-at 64 (λ j. bare P b (64 * at + j)) (sym e) j l))))
+      sym (all-from wordBits (blockRule P b at starts off left before allowed)
+      (λ j l. bare-keeps (bit P allocated b (wordBits * at + j)) (bit P marked b (wordBits * at + j)) (bit P gray b (wordBits * at + j)) (bit P pointer b (wordBits * at + j)) _ _ _ _ _ _ (is-true _ (all-at wordBits (λ j. bare P b (wordBits * at + j)) (sym e) j l))))
 
   module _ (h : at < pageBlocks * P) (marks grays scans : ℕ) (ms : marks ≡ cond (allowed .marks) (2 ^ 64 - 1) 0) (gs : grays ≡ cond (allowed .grays) (2 ^ 64 - 1) 0)
       (ps : scans ≡ cond (allowed .pointers) (2 ^ 64 - 1) 0) (first inside : ℕ) (fs : (j : ℕ) → j < 64 → on first j ≡ (leb off j && on starts (j - off))) (is : (j : ℕ) → j < 64 → on inside j ≡ ltb j left) where
@@ -66,15 +66,15 @@ module _ (P : ℕ) (b : List ℕ) (at starts off left before : ℕ) (allowed : A
     on-scans : (j : ℕ) → j < 64 → on scans j ≡ allowed .pointers
     on-scans j l = rw ps (on-flag (allowed .pointers) j l)
 
-    block-is : (allBelow 64 colours && allBelow 64 pointers) ≡ allBelow 64 (blockRule P b at starts off left before allowed)
+    block-is : (allBelow wordBits colours && allBelow wordBits pointers) ≡ allBelow wordBits (blockRule P b at starts off left before allowed)
     unfolding rule pointerRule keeps
     block-is =
-        all-and 64 colours pointers
-        ∙ all-cong 64 (λ j. colours j && pointers j) (blockRule P b at starts off left before allowed)
+        all-and wordBits colours pointers
+        ∙ all-cong wordBits (λ j. colours j && pointers j) (blockRule P b at starts off left before allowed)
         (λ j l. simp (on-and, allocated-on P b at h j l, marked-on P b at h j l, gray-on P b at h j l, pointer-on P b at h j l, pointer-on P b at h (j - 1) (omega arith), fs j l, is j l, on-marks j l, on-grays j l, on-scans j l))
 
-    pub colours-fail : {r : Bool} → r ≡ allBelow 64 colours → r ≡ false → false ≡ allBelow 64 (blockRule P b at starts off left before allowed)
+    pub colours-fail : {r : Bool} → r ≡ allBelow wordBits colours → r ≡ false → false ≡ allBelow wordBits (blockRule P b at starts off left before allowed)
     colours-fail e f = rw (sym e ∙ f) at block-is
 
-    pub colours-pass : {r s : Bool} → r ≡ allBelow 64 colours → r ≡ true → s ≡ allBelow 64 pointers → s ≡ allBelow 64 (blockRule P b at starts off left before allowed)
+    pub colours-pass : {r s : Bool} → r ≡ allBelow wordBits colours → r ≡ true → s ≡ allBelow wordBits pointers → s ≡ allBelow wordBits (blockRule P b at starts off left before allowed)
     colours-pass e f g = g ∙ (rw (sym e ∙ f) at block-is)

@@ -8,7 +8,7 @@ use lib.Bits.{bitOr, or-lt}
 use lib.Dec.{eqb, ltb, leb}
 use lib.ListN.{getD}
 use borrow.Author.Tests.{leb-true, leb-false, lt-ltb, le-ltb}
-use Rattle.model.specs.Memory.{pageWords, pageBlocks, markedPart, grayPart, pointerPart}
+use Rattle.model.specs.Memory.{pageWords, wordBits, pageBlocks, markedPart, grayPart, pointerPart}
 use Rattle.model.specs.Bounded.{allBelow}
 use Rattle.model.specs.Bitmaps.{bitOf, bitAt, Part, allocated, marked, gray, pointer, place}
 use Rattle.model.proofs.Bitmaps.{bit-none, bit-in, bit-shifted, bit-all}
@@ -45,33 +45,33 @@ on-up x off j l = rw (bit-shifted x 64 off j l) (go (leb off j))
     go true = refl
     go false = refl
 
-pub on-word : (ws : List ℕ) (i j : ℕ) → j < 64 → on (getD ws i 0) j ≡ bitAt ws (i * 64 + j)
+pub on-word : (ws : List ℕ) (i j : ℕ) → j < 64 → on (getD ws i 0) j ≡ bitAt ws (i * wordBits + j)
 unfolding bitAt
 on-word ws i j l =
-    let d : (i * 64 + j) / 64 ≡ i = omega arith in
-    let m : (i * 64 + j) % 64 ≡ j = omega arith in
+    let d : (i * wordBits + j) / wordBits ≡ i = omega arith in
+    let m : (i * wordBits + j) % wordBits ≡ j = omega arith in
     rw (d, m)
 
 -- the word of a part that has the bits of block `at`
 module _ (P : ℕ) (b : List ℕ) (at : ℕ) (h : at < pageBlocks * P) where
-  pub part-on : (q : Part) (i j : ℕ) → j < 64 → place (pageWords * P) q (64 * at + j) ≡ i * 64 + j → on (getD b i 0) j ≡ bit P q b (64 * at + j)
-  part-on q i j l e = on-word b i j l ∙ ap (bitAt b) (sym e) ∙ sym (bit-in (pageWords * P) q b (64 * at + j) (omega arith))
+  pub part-on : (q : Part) (i j : ℕ) → j < 64 → place (pageWords * P) q (wordBits * at + j) ≡ i * wordBits + j → on (getD b i 0) j ≡ bit P q b (wordBits * at + j)
+  part-on q i j l e = on-word b i j l ∙ ap (bitAt b) (sym e) ∙ sym (bit-in (pageWords * P) q b (wordBits * at + j) (omega arith))
 
-  pub allocated-on : (j : ℕ) → j < 64 → on (getD b at 0) j ≡ bit P allocated b (64 * at + j)
+  pub allocated-on : (j : ℕ) → j < 64 → on (getD b at 0) j ≡ bit P allocated b (wordBits * at + j)
   allocated-on j l = part-on allocated at j l (omega arith)
 
-  pub marked-on : (j : ℕ) → j < 64 → on (getD b (markedPart * (pageBlocks * P) + at) 0) j ≡ bit P marked b (64 * at + j)
+  pub marked-on : (j : ℕ) → j < 64 → on (getD b (markedPart * (pageBlocks * P) + at) 0) j ≡ bit P marked b (wordBits * at + j)
   marked-on j l = part-on marked (markedPart * (pageBlocks * P) + at) j l (omega arith)
 
-  pub gray-on : (j : ℕ) → j < 64 → on (getD b (grayPart * (pageBlocks * P) + at) 0) j ≡ bit P gray b (64 * at + j)
+  pub gray-on : (j : ℕ) → j < 64 → on (getD b (grayPart * (pageBlocks * P) + at) 0) j ≡ bit P gray b (wordBits * at + j)
   gray-on j l = part-on gray (grayPart * (pageBlocks * P) + at) j l (omega arith)
 
-  pub pointer-on : (j : ℕ) → j < 64 → on (getD b (pointerPart * (pageBlocks * P) + at) 0) j ≡ bit P pointer b (64 * at + j)
+  pub pointer-on : (j : ℕ) → j < 64 → on (getD b (pointerPart * (pageBlocks * P) + at) 0) j ≡ bit P pointer b (wordBits * at + j)
   pointer-on j l = part-on pointer (pointerPart * (pageBlocks * P) + at) j l (omega arith)
 
   pub empty-block : ((i : ℕ) → getD b i 0 < 2 ^ 64) →
-      eqb (bitOr (bitOr (bitOr (getD b at 0) (getD b (markedPart * (pageBlocks * P) + at) 0)) (getD b (grayPart * (pageBlocks * P) + at) 0)) (getD b (pointerPart * (pageBlocks * P) + at) 0)) 0 ≡ allBelow 64 (λ j. bare P b (64 * at + j))
+      eqb (bitOr (bitOr (bitOr (getD b at 0) (getD b (markedPart * (pageBlocks * P) + at) 0)) (getD b (grayPart * (pageBlocks * P) + at) 0)) (getD b (pointerPart * (pageBlocks * P) + at) 0)) 0 ≡ allBelow wordBits (λ j. bare P b (wordBits * at + j))
   unfolding bare
   empty-block f =
       zero-word _ (or-lt 64 _ _ (or-lt 64 _ _ (or-lt 64 _ _ (f at) (f (markedPart * (pageBlocks * P) + at))) (f (grayPart * (pageBlocks * P) + at))) (f (pointerPart * (pageBlocks * P) + at)))
-      ∙ all-cong 64 _ (λ j. bare P b (64 * at + j)) (λ j l. simp (on-or, not-or, allocated-on j l, marked-on j l, gray-on j l, pointer-on j l))
+      ∙ all-cong wordBits _ (λ j. bare P b (wordBits * at + j)) (λ j l. simp (on-or, not-or, allocated-on j l, marked-on j l, gray-on j l, pointer-on j l))

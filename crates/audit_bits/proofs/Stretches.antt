@@ -7,7 +7,7 @@ use mathlib.Core.Path.{_≡_, refl, _∙_, ap}
 use native.Mathlib.Omega.{arith}
 use lib.Dec.{T, eqb, ltb}
 use borrow.Author.Tests.{ltb-true, ltb-false, eqb-true, eqb-false, ne-eqb}
-use Rattle.model.specs.Memory.{pageWords, pageBlocks, mark, sweep}
+use Rattle.model.specs.Memory.{pageWords, wordBits, pageBlocks, mark, sweep}
 use Rattle.model.specs.Bounded.{allBelow, firstBelow}
 use Rattle.model.specs.Bitmaps.{bitAt, allocated, marked, gray, pointer}
 use Rattle.model.specs.Spans.{owner, pageCount}
@@ -37,7 +37,7 @@ module _ {t : List ℕ} {s : ℕ} {r : Span} (R : Reads t s r) where
         held = rw (R .class, R .pages) (f .inside);
       }
 
-  read-rule : (P phase : ℕ) (b : List ℕ) → allBelow (64 * (pageBlocks * r .pages)) (spanRule P phase b r) ≡ allBelow (64 * (pageBlocks * pageCount t s)) (ruleAt P phase t b s)
+  read-rule : (P phase : ℕ) (b : List ℕ) → allBelow (wordBits * (pageBlocks * r .pages)) (spanRule P phase b r) ≡ allBelow (wordBits * (pageBlocks * pageCount t s)) (ruleAt P phase t b s)
   read-rule P phase b = rw (R .start, R .class, R .pages, R .scan, R .unswept)
 
 -- the tests of a free page, and of a span, say what the audit says of their words
@@ -53,18 +53,18 @@ module _ {P phase : ℕ} {t b : List ℕ} where
       back : GoodWords P phase t b (pageWords * g) (pageWords * (g + 1)) → T (allBelow pageWords (λ o. bare P b (pageWords * g + o)))
       back W = all-iff pageWords (λ o. bare P b (pageWords * g + o)) .1 (λ o l. let z : (pageWords * g + o) / pageWords ≡ g = omega arith in word-bare (pageWords * g + o) (ap (owner t) z ∙ e) (W (pageWords * g + o) (omega arith) (omega arith)))
 
-  pub span-good : {g : ℕ} {x : Span} → Reads t g x → Spans P t → phase ≤ sweep → IsSpan t g → (r : Bool) → r ≡ allBelow (64 * (pageBlocks * x .pages)) (spanRule P phase b x) →
+  pub span-good : {g : ℕ} {x : Span} → Reads t g x → Spans P t → phase ≤ sweep → IsSpan t g → (r : Bool) → r ≡ allBelow (wordBits * (pageBlocks * x .pages)) (spanRule P phase b x) →
       T r ↔ GoodWords P phase t b (pageWords * g) (pageWords * (g + stretch t g))
   span-good {g} R F legal i r p = rw (p, read-rule R P phase b, ne-eqb (owner t g) 0 (omega arith)) (there, back)
     where
-      there : T (allBelow (64 * (pageBlocks * pageCount t g)) (ruleAt P phase t b g)) → GoodWords P phase t b (pageWords * g) (pageWords * (g + pageCount t g))
+      there : T (allBelow (wordBits * (pageBlocks * pageCount t g)) (ruleAt P phase t b g)) → GoodWords P phase t b (pageWords * g) (pageWords * (g + pageCount t g))
       there x w a l =
           let z : pageWords * g + (w - pageWords * g) ≡ w = omega arith in
-          rw z at (span-words F g i phase b (λ o m. all-iff (64 * (pageBlocks * pageCount t g)) (ruleAt P phase t b g) .0 x o (omega arith)) (w - pageWords * g) (omega arith))
+          rw z at (span-words F g i phase b (λ o m. all-iff (wordBits * (pageBlocks * pageCount t g)) (ruleAt P phase t b g) .0 x o (omega arith)) (w - pageWords * g) (omega arith))
 
-      back : GoodWords P phase t b (pageWords * g) (pageWords * (g + pageCount t g)) → T (allBelow (64 * (pageBlocks * pageCount t g)) (ruleAt P phase t b g))
+      back : GoodWords P phase t b (pageWords * g) (pageWords * (g + pageCount t g)) → T (allBelow (wordBits * (pageBlocks * pageCount t g)) (ruleAt P phase t b g))
       back W =
-          all-iff (64 * (pageBlocks * pageCount t g)) (ruleAt P phase t b g) .1 (λ o l. words-span F g i phase b legal o (omega arith) (W (pageWords * g + o) (omega arith) (omega arith)))
+          all-iff (wordBits * (pageBlocks * pageCount t g)) (ruleAt P phase t b g) .1 (λ o l. words-span F g i phase b legal o (omega arith) (W (pageWords * g + o) (omega arith) (omega arith)))
 
   -- one stretch more
   pub good-more : (g n : ℕ) → GoodWords P phase t b 0 (pageWords * g) → GoodWords P phase t b (pageWords * g) (pageWords * (g + n)) → GoodWords P phase t b 0 (pageWords * (g + n))

@@ -8,7 +8,7 @@ use native.Mathlib.Nat.{zero-mod, add-mod-mod}
 use lib.Dec.{T, eqb, ltb, leb}
 use lib.ListN.{getD}
 use borrow.Author.Tests.{ltb-true, ltb-false, lt-ltb, le-ltb, eqb-true, eqb-false}
-use Rattle.model.specs.Memory.{pageWords, pageBlocks, pointerPart}
+use Rattle.model.specs.Memory.{pageWords, wordBits, pageBlocks, pointerPart}
 use Rattle.model.specs.Bounded.{allBelow}
 use Rattle.model.specs.Bitmaps.{bitOf, pointer}
 use Rattle.model.proofs.Tests.{is-true, of-true}
@@ -24,35 +24,35 @@ use Rattle.audit_bits.proofs.Masks.{on-none, part-on}
 
 -- a test of every word, block by block: k blocks passed, and one more was tested
 module _ (R : ℕ → Bool) (k : ℕ) where
-  pub more : {r : Bool} → ((o : ℕ) → o < 64 * k → T (R o)) → r ≡ allBelow 64 (λ j. R (64 * k + j)) → r ≡ true → (o : ℕ) → o < 64 * (k + 1) → T (R o)
-  more f e p o l = go (ltb o (64 * k)) refl
+  pub more : {r : Bool} → ((o : ℕ) → o < wordBits * k → T (R o)) → r ≡ allBelow wordBits (λ j. R (wordBits * k + j)) → r ≡ true → (o : ℕ) → o < wordBits * (k + 1) → T (R o)
+  more f e p o l = go (ltb o (wordBits * k)) refl
     where
-      go : (c : Bool) → ltb o (64 * k) ≡ c → T (R o)
-      go true q = f o (ltb-true o (64 * k) q)
+      go : (c : Bool) → ltb o (wordBits * k) ≡ c → T (R o)
+      go true q = f o (ltb-true o (wordBits * k) q)
       go false q =
-          let m : 64 * k ≤ o = ltb-false o (64 * k) q in
-          let z : 64 * k + (o - 64 * k) ≡ o = omega arith in
-          rw z at (is-true _ (all-at 64 (λ j. R (64 * k + j)) (sym e ∙ p) (o - 64 * k) (omega arith)))
+          let m : wordBits * k ≤ o = ltb-false o (wordBits * k) q in
+          let z : wordBits * k + (o - wordBits * k) ≡ o = omega arith in
+          rw z at (is-true _ (all-at wordBits (λ j. R (wordBits * k + j)) (sym e ∙ p) (o - wordBits * k) (omega arith)))
 
-  pub fails : {r : Bool} (n : ℕ) → k < n → r ≡ allBelow 64 (λ j. R (64 * k + j)) → r ≡ false → false ≡ allBelow (64 * n) R
+  pub fails : {r : Bool} (n : ℕ) → k < n → r ≡ allBelow wordBits (λ j. R (wordBits * k + j)) → r ≡ false → false ≡ allBelow (wordBits * n) R
   fails n l e p =
-      let x = some-fails 64 (λ j. R (64 * k + j)) (sym e ∙ p) in
-      sym (all-no (64 * n) R (64 * k + x .0) (omega (arith, x .1)) (x .2))
+      let x = some-fails wordBits (λ j. R (wordBits * k + j)) (sym e ∙ p) in
+      sym (all-no (wordBits * n) R (wordBits * k + x .0) (omega (arith, x .1)) (x .2))
 
-  pub passes : (n : ℕ) → n ≤ k → ((o : ℕ) → o < 64 * k → T (R o)) → true ≡ allBelow (64 * n) R
-  passes n l f = sym (all-from (64 * n) R (λ o m. of-true _ (f o (omega arith))))
+  pub passes : (n : ℕ) → n ≤ k → ((o : ℕ) → o < wordBits * k → T (R o)) → true ≡ allBelow (wordBits * n) R
+  passes n l f = sym (all-from (wordBits * n) R (λ o m. of-true _ (f o (omega arith))))
 
 -- a block of a page
-pub page-block : (R : ℕ → Bool) (g k : ℕ) → allBelow 64 (λ j. R (64 * (pageBlocks * g + k) + j)) ≡ allBelow 64 (λ j. R (pageWords * g + (64 * k + j)))
-page-block R g k = all-cong 64 (λ j. R (64 * (pageBlocks * g + k) + j)) (λ j. R (pageWords * g + (64 * k + j))) (λ j l. ap R (omega arith))
+pub page-block : (R : ℕ → Bool) (g k : ℕ) → allBelow wordBits (λ j. R (wordBits * (pageBlocks * g + k) + j)) ≡ allBelow wordBits (λ j. R (pageWords * g + (wordBits * k + j)))
+page-block R g k = all-cong wordBits (λ j. R (wordBits * (pageBlocks * g + k) + j)) (λ j. R (pageWords * g + (wordBits * k + j))) (λ j l. ap R (omega arith))
 
 -- what stands at the beginning of block k of the span at page s
 pub record Stands (P : ℕ) (b : List ℕ) (s size held : ℕ) (allowed : Allowed) (k off left before : ℕ) : Type 0 where
   pub near : off < size
-  pub start : (64 * k + off) % size ≡ 0
-  pub remains : left ≡ held - 64 * k
-  pub last : on before 0 ≡ (ltb 0 (64 * k) && bit P pointer b (pageWords * s + (64 * k - 1)))
-  pub done : (o : ℕ) → o < 64 * k → T (wordRule P b (pageWords * s) size held allowed o)
+  pub start : (wordBits * k + off) % size ≡ 0
+  pub remains : left ≡ held - wordBits * k
+  pub last : on before 0 ≡ (ltb 0 (wordBits * k) && bit P pointer b (pageWords * s + (wordBits * k - 1)))
+  pub done : (o : ℕ) → o < wordBits * k → T (wordRule P b (pageWords * s) size held allowed o)
 
 -- the highest bit of a word
 top-on : (x : ℕ) → on (x / 2 ^ 63) 0 ≡ on x 63
@@ -73,38 +73,38 @@ module _ (P : ℕ) (b : List ℕ) (s size held : ℕ) (allowed : Allowed) where
         go false = refl
 
     module _ {k off left before : ℕ} (x : Stands P b s size held allowed k off left before) where
-      inside-is : (j : ℕ) → ltb j left ≡ ltb (64 * k + j) held
+      inside-is : (j : ℕ) → ltb j left ≡ ltb (wordBits * k + j) held
       inside-is j = go (ltb j left) refl
         where
-          go : (c : Bool) → ltb j left ≡ c → c ≡ ltb (64 * k + j) held
-          go true p = sym (lt-ltb (64 * k + j) held (omega (arith, ltb-true j left p, x .remains)))
-          go false p = sym (le-ltb (64 * k + j) held (omega (arith, ltb-false j left p, x .remains)))
+          go : (c : Bool) → ltb j left ≡ c → c ≡ ltb (wordBits * k + j) held
+          go true p = sym (lt-ltb (wordBits * k + j) held (omega (arith, ltb-true j left p, x .remains)))
+          go false p = sym (le-ltb (wordBits * k + j) held (omega (arith, ltb-false j left p, x .remains)))
 
-      start-is : (j : ℕ) → j < 64 → (leb off j && on mask (j - off)) ≡ eqb ((64 * k + j) % size) 0
-      start-is j l = rw (on-mask (j - off) (omega arith), starts-from size (64 * k) off j (x .near) (x .start))
+      start-is : (j : ℕ) → j < 64 → (leb off j && on mask (j - off)) ≡ eqb ((wordBits * k + j) % size) 0
+      start-is j l = rw (on-mask (j - off) (omega arith), starts-from size (wordBits * k) off j (x .near) (x .start))
 
-      follows-is : (j : ℕ) → cond (eqb j 0) (on before 0) (bit P pointer b (64 * (pageBlocks * s + k) + (j - 1))) ≡ (ltb 0 (64 * k + j) && bit P pointer b (pageWords * s + (64 * k + j - 1)))
+      follows-is : (j : ℕ) → cond (eqb j 0) (on before 0) (bit P pointer b (wordBits * (pageBlocks * s + k) + (j - 1))) ≡ (ltb 0 (wordBits * k + j) && bit P pointer b (pageWords * s + (wordBits * k + j - 1)))
       follows-is j = go (eqb j 0) refl
         where
-          go : (c : Bool) → eqb j 0 ≡ c → cond c (on before 0) (bit P pointer b (64 * (pageBlocks * s + k) + (j - 1))) ≡ (ltb 0 (64 * k + j) && bit P pointer b (pageWords * s + (64 * k + j - 1)))
+          go : (c : Bool) → eqb j 0 ≡ c → cond c (on before 0) (bit P pointer b (wordBits * (pageBlocks * s + k) + (j - 1))) ≡ (ltb 0 (wordBits * k + j) && bit P pointer b (pageWords * s + (wordBits * k + j - 1)))
           go true p =
-              let e : 64 * k + j ≡ 64 * k = omega (arith, eqb-true j 0 p) in
+              let e : wordBits * k + j ≡ wordBits * k = omega (arith, eqb-true j 0 p) in
               rw e (x .last)
           go false p =
-              let e : 64 * (pageBlocks * s + k) + (j - 1) ≡ pageWords * s + (64 * k + j - 1) = omega (arith, eqb-false j 0 p) in
-              rw (e, lt-ltb 0 (64 * k + j) (omega (arith, eqb-false j 0 p)))
+              let e : wordBits * (pageBlocks * s + k) + (j - 1) ≡ pageWords * s + (wordBits * k + j - 1) = omega (arith, eqb-false j 0 p) in
+              rw (e, lt-ltb 0 (wordBits * k + j) (omega (arith, eqb-false j 0 p)))
 
-      pub block-words : {r : Bool} → r ≡ allBelow 64 (blockRule P b (pageBlocks * s + k) mask off left before allowed) → r ≡ allBelow 64 (λ j. wordRule P b (pageWords * s) size held allowed (64 * k + j))
-      block-words e = e ∙ all-cong 64 _ (λ j. wordRule P b (pageWords * s) size held allowed (64 * k + j)) word
+      pub block-words : {r : Bool} → r ≡ allBelow wordBits (blockRule P b (pageBlocks * s + k) mask off left before allowed) → r ≡ allBelow wordBits (λ j. wordRule P b (pageWords * s) size held allowed (wordBits * k + j))
+      block-words e = e ∙ all-cong wordBits _ (λ j. wordRule P b (pageWords * s) size held allowed (wordBits * k + j)) word
         where
-          word : (j : ℕ) → j < 64 → blockRule P b (pageBlocks * s + k) mask off left before allowed j ≡ wordRule P b (pageWords * s) size held allowed (64 * k + j)
+          word : (j : ℕ) → j < 64 → blockRule P b (pageBlocks * s + k) mask off left before allowed j ≡ wordRule P b (pageWords * s) size held allowed (wordBits * k + j)
           word j l =
-              let e : 64 * (pageBlocks * s + k) + j ≡ pageWords * s + (64 * k + j) = omega arith in
+              let e : wordBits * (pageBlocks * s + k) + j ≡ pageWords * s + (wordBits * k + j) = omega arith in
               rw (e, start-is j l, inside-is j, follows-is j)
 
-      pub stands-next : pageBlocks * s + k < pageBlocks * P → (r : ℕ) → r < size → (r + 64) % size ≡ off → {ok : Bool} →
-          ok ≡ allBelow 64 (λ j. wordRule P b (pageWords * s) size held allowed (64 * k + j)) → ok ≡ true →
-          Stands P b s size held allowed (k + 1) r (left - 64) (getD b ((pointerPart * (pageBlocks * P) + pageBlocks * s) + k) 0 / 2 ^ 63)
+      pub stands-next : pageBlocks * s + k < pageBlocks * P → (r : ℕ) → r < size → (r + wordBits) % size ≡ off → {ok : Bool} →
+          ok ≡ allBelow wordBits (λ j. wordRule P b (pageWords * s) size held allowed (wordBits * k + j)) → ok ≡ true →
+          Stands P b s size held allowed (k + 1) r (left - wordBits) (getD b ((pointerPart * (pageBlocks * P) + pageBlocks * s) + k) 0 / 2 ^ 63)
       stands-next h r l o e p = record {
         near = l;
         start = again;
@@ -113,12 +113,12 @@ module _ (P : ℕ) (b : List ℕ) (s size held : ℕ) (allowed : Allowed) where
         done = more (wordRule P b (pageWords * s) size held allowed) k (x .done) e p;
       }
         where
-          again : (64 * (k + 1) + r) % size ≡ 0
+          again : (wordBits * (k + 1) + r) % size ≡ 0
           again =
-              let e : 64 * (k + 1) + r ≡ 64 * k + (r + 64) = omega arith in
-              rw (e, ← add-mod-mod (64 * k) (r + 64) size, o) (x .start)
+              let e : wordBits * (k + 1) + r ≡ wordBits * k + (r + wordBits) = omega arith in
+              rw (e, ← add-mod-mod (wordBits * k) (r + wordBits) size, o) (x .start)
 
-          last : on (getD b ((pointerPart * (pageBlocks * P) + pageBlocks * s) + k) 0 / 2 ^ 63) 0 ≡ (ltb 0 (64 * (k + 1)) && bit P pointer b (pageWords * s + (64 * (k + 1) - 1)))
+          last : on (getD b ((pointerPart * (pageBlocks * P) + pageBlocks * s) + k) 0 / 2 ^ 63) 0 ≡ (ltb 0 (wordBits * (k + 1)) && bit P pointer b (pageWords * s + (wordBits * (k + 1) - 1)))
           last =
-              let e : 64 * (pageBlocks * s + k) + 63 ≡ pageWords * s + (64 * (k + 1) - 1) = omega arith in
-              rw (lt-ltb 0 (64 * (k + 1)) (omega arith), ← e) (top-on (getD b ((pointerPart * (pageBlocks * P) + pageBlocks * s) + k) 0) ∙ part-on P b (pageBlocks * s + k) h pointer ((pointerPart * (pageBlocks * P) + pageBlocks * s) + k) 63 (omega arith) (omega arith))
+              let e : wordBits * (pageBlocks * s + k) + 63 ≡ pageWords * s + (wordBits * (k + 1) - 1) = omega arith in
+              rw (lt-ltb 0 (wordBits * (k + 1)) (omega arith), ← e) (top-on (getD b ((pointerPart * (pageBlocks * P) + pageBlocks * s) + k) 0) ∙ part-on P b (pageBlocks * s + k) h pointer ((pointerPart * (pageBlocks * P) + pageBlocks * s) + k) 63 (omega arith) (omega arith))

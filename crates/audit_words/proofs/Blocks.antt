@@ -11,7 +11,7 @@ use lib.Dec.{T, eqb, ltb}
 use lib.ListN.{getD}
 use lib.Pow.{pow-pos}
 use borrow.Author.Tests.{ltb-true, ltb-false, lt-leb, leb-false, eqb-true, eqb-false}
-use Rattle.model.specs.Memory.{pageWords, pageBlocks, unsweptFlag, pointerPart}
+use Rattle.model.specs.Memory.{pageWords, wordBits, pageBlocks, unsweptFlag, pointerPart}
 use Rattle.model.specs.Bitmaps.{bitOf, bitAt, withBitOf, allocated, pointer}
 use Rattle.model.specs.Spans.{pageCount, kindEntry, spanOf, elementOf, elementWords}
 use Rattle.model.proofs.Tests.{is-true, clash}
@@ -62,14 +62,14 @@ module _ (left : ℕ) (fits : left < 2 ^ 64) (some : left ≢ 0) where
 -- the bits of `pointers` that are not left were taken, and their words hold references
 pub record BitsTaken (p : ℕ) (a t b : List ℕ) (at pointers left : ℕ) : Type 0 where
   pub among : (j : ℕ) → j < 64 → T (eqb (bitOf left j) 1) → T (eqb (bitOf pointers j) 1)
-  pub done : (j : ℕ) → j < 64 → T (eqb (bitOf pointers j) 1) → T (eqb (bitOf left j) 1) ⊎ Reference p t b (getD a (64 * at + j) 0)
+  pub done : (j : ℕ) → j < 64 → T (eqb (bitOf pointers j) 1) → T (eqb (bitOf left j) 1) ⊎ Reference p t b (getD a (wordBits * at + j) 0)
 
 module _ (p : ℕ) (a t b : List ℕ) (at pointers : ℕ) where
   pub taken-none : BitsTaken p a t b at pointers pointers
   taken-none = record { among = λ j l x. x; done = λ j l x. inl x }
 
   pub taken-one : (left : ℕ) (fits : left < 2 ^ 64) (some : left ≢ 0) → BitsTaken p a t b at pointers left →
-      Reference p t b (getD a (64 * at + trailingZeros 64 left) 0) → BitsTaken p a t b at pointers (withBitOf (trailingZeros 64 left) false left)
+      Reference p t b (getD a (wordBits * at + trailingZeros 64 left) 0) → BitsTaken p a t b at pointers (withBitOf (trailingZeros 64 left) false left)
   taken-one left fits some H r = record { among = λ j l x. H .among j l (back j (eqb z j) (rw (bits j l) at x)); done = λ j l x. on j l (H .done j l x) }
     where
       z : ℕ
@@ -82,44 +82,44 @@ module _ (p : ℕ) (a t b : List ℕ) (at pointers : ℕ) where
       back j true x = absurd x
       back j false x = x
 
-      on : (j : ℕ) → j < 64 → T (eqb (bitOf left j) 1) ⊎ Reference p t b (getD a (64 * at + j) 0) →
-          T (eqb (bitOf (withBitOf z false left) j) 1) ⊎ Reference p t b (getD a (64 * at + j) 0)
+      on : (j : ℕ) → j < 64 → T (eqb (bitOf left j) 1) ⊎ Reference p t b (getD a (wordBits * at + j) 0) →
+          T (eqb (bitOf (withBitOf z false left) j) 1) ⊎ Reference p t b (getD a (wordBits * at + j) 0)
       on j l (inr y) = inr y
       on j l (inl x) = rw (bits j l) (go (eqb z j) refl)
         where
-          go : (c : Bool) → eqb z j ≡ c → T (cond c false (eqb (bitOf left j) 1)) ⊎ Reference p t b (getD a (64 * at + j) 0)
+          go : (c : Bool) → eqb z j ≡ c → T (cond c false (eqb (bitOf left j) 1)) ⊎ Reference p t b (getD a (wordBits * at + j) 0)
           go true e = inr (rw (eqb-true z j e) at r)
           go false e = inl x
 
   pub taken-all : BitsTaken p a t b at pointers 0 → BlockContents p a t b at pointers
   taken-all H j l x = go (H .done j l x)
     where
-      go : T (eqb (bitOf 0 j) 1) ⊎ Reference p t b (getD a (64 * at + j) 0) → Reference p t b (getD a (64 * at + j) 0)
+      go : T (eqb (bitOf 0 j) 1) ⊎ Reference p t b (getD a (wordBits * at + j) 0) → Reference p t b (getD a (wordBits * at + j) 0)
       go (inl y) = absurd (rw (bit-none j) at y)
       go (inr y) = y
 
 -- the pointer bits of block `at` are one bitmap word
-block-bit : (p : ℕ) (b : List ℕ) (at j : ℕ) → at < pageBlocks * p → j < 64 → bit p pointer b (64 * at + j) ≡ eqb (bitOf (getD b (pointerPart * (pageBlocks * p) + at) 0) j) 1
+block-bit : (p : ℕ) (b : List ℕ) (at j : ℕ) → at < pageBlocks * p → j < 64 → bit p pointer b (wordBits * at + j) ≡ eqb (bitOf (getD b (pointerPart * (pageBlocks * p) + at) 0) j) 1
 unfolding bitAt
 block-bit p b at j h l =
-    let d : (pointerPart * (pageWords * p) + (64 * at + j)) / 64 ≡ pointerPart * (pageBlocks * p) + at = omega arith in
-    let m : (pointerPart * (pageWords * p) + (64 * at + j)) % 64 ≡ j = omega arith in
-    bit-in (pageWords * p) pointer b (64 * at + j) (omega arith) ∙ rw (d, m)
+    let d : (pointerPart * (pageWords * p) + (wordBits * at + j)) / wordBits ≡ pointerPart * (pageBlocks * p) + at = omega arith in
+    let m : (pointerPart * (pageWords * p) + (wordBits * at + j)) % wordBits ≡ j = omega arith in
+    bit-in (pageWords * p) pointer b (wordBits * at + j) (omega arith) ∙ rw (d, m)
 
 module _ (p : ℕ) (a t b : List ℕ) where
   pub blocks-more : (from k : ℕ) → k < pageBlocks * p → BlocksContents p a t b from k → BlockContents p a t b k (getD b (pointerPart * (pageBlocks * p) + k) 0) → BlocksContents p a t b from (k + 1)
-  blocks-more from k h B C w l m x = go (ltb w (64 * k)) refl
+  blocks-more from k h B C w l m x = go (ltb w (wordBits * k)) refl
     where
-      go : (c : Bool) → ltb w (64 * k) ≡ c → Reference p t b (getD a w 0)
-      go true e = B w l (ltb-true w (64 * k) e) x
+      go : (c : Bool) → ltb w (wordBits * k) ≡ c → Reference p t b (getD a w 0)
+      go true e = B w l (ltb-true w (wordBits * k) e) x
       go false e =
-          let o = ltb-false w (64 * k) e in
-          let z : 64 * k + (w - 64 * k) ≡ w = omega arith in
-          let y : T (bit p pointer b (64 * k + (w - 64 * k))) = rw z x in
-          rw z at (C (w - 64 * k) (omega arith) (rw (block-bit p b k (w - 64 * k) h (omega arith)) at y))
+          let o = ltb-false w (wordBits * k) e in
+          let z : wordBits * k + (w - wordBits * k) ≡ w = omega arith in
+          let y : T (bit p pointer b (wordBits * k + (w - wordBits * k))) = rw z x in
+          rw z at (C (w - wordBits * k) (omega arith) (rw (block-bit p b k (w - wordBits * k) h (omega arith)) at y))
 
   pub blocks-block : (from to k : ℕ) → from ≤ k → k < to → to ≤ pageBlocks * p → BlocksContents p a t b from to → BlockContents p a t b k (getD b (pointerPart * (pageBlocks * p) + k) 0)
-  blocks-block from to k l m h B j n x = B (64 * k + j) (omega arith) (omega arith) (rw (block-bit p b k j (omega arith) n) x)
+  blocks-block from to k l m h B j n x = B (wordBits * k + j) (omega arith) (omega arith) (rw (block-bit p b k j (omega arith) n) x)
 
 module _ (p : ℕ) (a t b : List ℕ) (F : Filled p a t b) where
   -- in a swept span what is allocated is kept

@@ -6,7 +6,7 @@ use mathlib.Core.List.{List}
 use mathlib.Core.Path.{_≡_, sym, _∙_, ap}
 use native.Mathlib.Omega.{arith}
 use Rattle.model.specs.Bounded.{writeRun, countBelow}
-use Rattle.model.specs.Memory.{markedPart}
+use Rattle.model.specs.Memory.{wordBits, markedPart}
 use Rattle.model.specs.Bitmaps.{bitAt, withBit, Part, allocated, marked, gray, pointer, place, bitIn, putBit, putBits}
 use Rattle.model.proofs.Bounded.{count-cong}
 use Rattle.model.proofs.Bitmaps.{Four, bit-in, part-run}
@@ -43,18 +43,18 @@ part-from-part n q r w k b c h =
 -- The bits of part r move to part q, and go in part r: as `move_range` leaves the list c, where the k bits fill m words of the bitmaps in both
 -- parts. The values may be read in an earlier list b that has the same bits there.
 module _ (n : ℕ) (q r : Part) (w k : ℕ) (b c : List ℕ) (h : w + k ≤ n) (same : (x : ℕ) → w ≤ x → x < w + k → bitIn n r b x ≡ bitIn n r c x) where
-  pub part-moved : (to from m : ℕ) → place n q w ≡ to * 64 → place n r w ≡ from * 64 → k ≡ m * 64 →
+  pub part-moved : (to from m : ℕ) → place n q w ≡ to * wordBits → place n r w ≡ from * wordBits → k ≡ m * wordBits →
       putBits n r w k (λ i. false) (putBits n q w k (bitIn n r b) c)
-      ≡ writeRun withBit (from * 64) (m * 64) (λ i. false) (writeRun withBit (to * 64) (m * 64) (λ i. bitAt c (i - to * 64 + from * 64)) c)
+      ≡ writeRun withBit (from * wordBits) (m * wordBits) (λ i. false) (writeRun withBit (to * wordBits) (m * wordBits) (λ i. bitAt c (i - to * wordBits + from * wordBits)) c)
   part-moved to from m e f g =
       rw (← e, ← f, ← g) (part-constant n r w k false _
       ∙ ap (writeRun withBit (place n r w) k (λ i. false)) (writes-cong (putBit n q) w k (bitIn n r b) (bitIn n r c) c same ∙ part-from-part n q r w k c c h))
 
 -- as the sweep says it: the pointer bits of the run change, then allocated becomes marked and marks go
-pub swept-parts : (n w k : ℕ) (g : ℕ → Bool) (b : List ℕ) → w + k ≤ n → Four n b → (to from m : ℕ) → w ≡ to * 64 → markedPart * n + w ≡ from * 64 → k ≡ m * 64 →
+pub swept-parts : (n w k : ℕ) (g : ℕ → Bool) (b : List ℕ) → w + k ≤ n → Four n b → (to from m : ℕ) → w ≡ to * wordBits → markedPart * n + w ≡ from * wordBits → k ≡ m * wordBits →
     (let c = putBits n pointer w k g b in
     putBits n marked w k (λ i. false) (putBits n allocated w k (bitIn n marked b) c)
-    ≡ writeRun withBit (from * 64) (m * 64) (λ i. false) (writeRun withBit (to * 64) (m * 64) (λ i. bitAt c (i - to * 64 + from * 64)) c))
+    ≡ writeRun withBit (from * wordBits) (m * wordBits) (λ i. false) (writeRun withBit (to * wordBits) (m * wordBits) (λ i. bitAt c (i - to * wordBits + from * wordBits)) c))
 swept-parts n w k g b h f to from m =
     part-moved n allocated marked w k b (putBits n pointer w k g b) h (λ x l u. sym (part-run n pointer w k g b h f marked x)) to from m
 

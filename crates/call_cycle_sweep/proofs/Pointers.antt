@@ -37,10 +37,10 @@ run-same n q w k g b h f fit e =
     value : ℕ → Bool
     value i = g (i - place n q 0)
 
-    room : place n q w + k ≤ 64 * length b
+    room : place n q w + k ≤ wordBits * length b
     room = inside q
       where
-        inside : (r : Part) → place n r w + k ≤ 64 * length b
+        inside : (r : Part) → place n r w + k ≤ wordBits * length b
         inside allocated = omega arith
         inside marked = omega arith
         inside gray = omega arith
@@ -54,7 +54,7 @@ run-same n q w k g b h f fit e =
         e x (omega (arith, place-from n q w)) (omega (arith, place-from n q w)) ∙ bit-in n q b x (omega (arith, place-from n q w)) ∙ ap (bitAt b) z
     go i false p = refl
 
-pub run-fit : (n : ℕ) (q : Part) (w k : ℕ) (g : ℕ → Bool) (b : List ℕ) → place n q w + k ≤ 64 * length b → Fit b → Fit (putBits n q w k g b)
+pub run-fit : (n : ℕ) (q : Part) (w k : ℕ) (g : ℕ → Bool) (b : List ℕ) → place n q w + k ≤ wordBits * length b → Fit b → Fit (putBits n q w k g b)
 run-fit n q w k g b h f = rw (part-as-bits n q w k g b) (bits-fit (place n q w) k (λ i. g (i - place n q 0)) b h f)
 
 -- a pointer bit stays where the element that it lies in is marked

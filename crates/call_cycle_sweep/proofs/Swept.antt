@@ -9,7 +9,7 @@ use native.Mathlib.Omega.{arith}
 use lib.Dec.{T, eqb}
 use borrow.Author.Tests.{eq-eqb, ne-eqb}
 use Rattle.model.specs.Bounded.{countBelow, writeRun}
-use Rattle.model.specs.Memory.{lent, pageWords, pageBlocks, markedPart}
+use Rattle.model.specs.Memory.{lent, pageWords, wordBits, pageBlocks, markedPart}
 use Rattle.model.specs.Bitmaps.{Part, bitAt, withBit, allocated, marked}
 use Rattle.model.specs.Spans.{pageCount, elementWords, elements, elementStart, elementNumber, kindAt, putPage, putPages, spanPage, freePage}
 use Rattle.model.specs.Cycle.{freedCount, nothingLeft, sweptTable, sweptBits}
@@ -26,8 +26,8 @@ use Rattle.call_cycle_sweep.proofs.Pointers.{stays}
 module _ (p : ℕ) (t b : List ℕ) (s : ℕ) (S : Sweepable p t b s) where
   -- pointer bits of freed elements went, then words of marks were moved, from word `marks` on
   pub swept-words : (marks : ℕ) → marks ≡ markedPart * (pageBlocks * p) + pageBlocks * s → (c : List ℕ) {then : List ℕ} {n : ℕ} → n ≡ pageCount t s → c ≡ clearedBits p t b s →
-      then ≡ writeRun withBit (marks * 64) (pageBlocks * n * 64) (λ i. false)
-      (writeRun withBit (pageBlocks * s * 64) (pageBlocks * n * 64) (λ i. bitAt c (i - pageBlocks * s * 64 + marks * 64)) c) →
+      then ≡ writeRun withBit (marks * wordBits) (pageBlocks * n * wordBits) (λ i. false)
+      (writeRun withBit (pageBlocks * s * wordBits) (pageBlocks * n * wordBits) (λ i. bitAt c (i - pageBlocks * s * wordBits + marks * wordBits)) c) →
       (a roots : List ℕ) → then ≡ sweptBits (lent p a t b roots) s
   unfolding sweptBits
   swept-words marks m c k e f a roots =
@@ -77,20 +77,20 @@ module _ (p : ℕ) (t b : List ℕ) (s : ℕ) (S : Sweepable p t b s) where
     pub freed : (a roots : List ℕ) → all - kept ≡ freedCount (lent p a t b roots) s
     pub left : (a roots : List ℕ) → nothingLeft (lent p a t b roots) s ≡ eqb kept 0
 
-  pub counted : (all kept n marks : ℕ) → n ≡ pageCount t s → marks ≡ markedPart * (pageBlocks * p) + pageBlocks * s → all ≡ countBelow (pageBlocks * n * 64) (λ k. bitAt b (pageBlocks * s * 64 + k)) →
-      kept ≡ countBelow (pageBlocks * n * 64) (λ k. bitAt b (marks * 64 + k)) → SpanCounts all kept
+  pub counted : (all kept n marks : ℕ) → n ≡ pageCount t s → marks ≡ markedPart * (pageBlocks * p) + pageBlocks * s → all ≡ countBelow (pageBlocks * n * wordBits) (λ k. bitAt b (pageBlocks * s * wordBits + k)) →
+      kept ≡ countBelow (pageBlocks * n * wordBits) (λ k. bitAt b (marks * wordBits + k)) → SpanCounts all kept
   unfolding freedCount nothingLeft
   counted all kept n marks c m e f = record { less = omega (arith, x, y, z); freed = λ a roots. omega (arith, x, y, z); left = λ a roots. none-counted (elements t s) (λ k. bit p marked b (elementStart t s k)) ∙ ap (λ n. eqb n 0) (sym y) }
     where
-      words : pageBlocks * n * 64 ≡ pageWords * pageCount t s
+      words : pageBlocks * n * wordBits ≡ pageWords * pageCount t s
       words = omega (arith, c)
 
       x : all ≡ countBelow (elements t s) (λ k. bit p allocated b (elementStart t s k))
-      x = let first : pageBlocks * s * 64 ≡ pageWords * s = omega arith in
+      x = let first : pageBlocks * s * wordBits ≡ pageWords * s = omega arith in
           (rw (words, first) at e) ∙ sym (part-count (pageWords * p) allocated (pageWords * s) (pageWords * pageCount t s) b (omega (arith, bounds S))) ∙ part-counted allocated (λ w a. a)
 
       y : kept ≡ countBelow (elements t s) (λ k. bit p marked b (elementStart t s k))
-      y = let first : marks * 64 ≡ markedPart * (pageWords * p) + pageWords * s = omega (arith, m) in
+      y = let first : marks * wordBits ≡ markedPart * (pageWords * p) + pageWords * s = omega (arith, m) in
           (rw (words, first) at f) ∙ sym (part-count (pageWords * p) marked (pageWords * s) (pageWords * pageCount t s) b (omega (arith, bounds S))) ∙ part-counted marked (S .consistent .rules .marks)
 
       z : countBelow (elements t s) (λ k. bit p allocated b (elementStart t s k)) ≡

@@ -13,7 +13,7 @@ use lib.Pow.{shr-shr, pow-lt, pow-pos, field, mod-mod-pow}
 use lib.Dec.{T, eqb, ltb, leb, eqb·zero-suc, eqb·suc-zero, eqb·suc-suc, leb·zero, leb·suc-zero, leb·suc-suc, ltb→lt}
 use borrow.Author.Tests.{ltb-true, ltb-false, eq-eqb, ne-eqb, eqb-true, eqb-false}
 use Rattle.model.specs.Bounded.{writeRun}
-use Rattle.model.specs.Memory.{markedPart, grayPart, pointerPart}
+use Rattle.model.specs.Memory.{wordBits, markedPart, grayPart, pointerPart}
 use Rattle.model.specs.Bitmaps.{bitOf, withBitOf, bitAt, withBit, Part, allocated, marked, gray, pointer, place, bitIn, putBit, putBits}
 use Rattle.model.proofs.Tests.{and-iff, eqb-shift}
 use Rattle.model.proofs.Bounded.{within, run-read}
@@ -120,33 +120,33 @@ with-bit-fits j false w h l = omega (arith, lib.Bits.and-le-l w ((2 ^ 64 - 1) - 
 
 -- bits of a list of words
 
-bit-split : (i j : ℕ) → i / 64 ≡ j / 64 → eqb (j % 64) (i % 64) ≡ eqb i j
+bit-split : (i j : ℕ) → i / wordBits ≡ j / wordBits → eqb (j % wordBits) (i % wordBits) ≡ eqb i j
 bit-split i j e = go (eqb i j) refl
   where
-    go : (b : Bool) → eqb i j ≡ b → eqb (j % 64) (i % 64) ≡ b
-    go true p = eq-eqb (j % 64) (i % 64) (omega (arith, eqb-true i j p))
-    go false p = ne-eqb (j % 64) (i % 64) (λ q. eqb-false i j p (omega arith))
+    go : (b : Bool) → eqb i j ≡ b → eqb (j % wordBits) (i % wordBits) ≡ b
+    go true p = eq-eqb (j % wordBits) (i % wordBits) (omega (arith, eqb-true i j p))
+    go false p = ne-eqb (j % wordBits) (i % wordBits) (λ q. eqb-false i j p (omega arith))
 
 pub with-length : (i : ℕ) (on : Bool) (ws : List ℕ) → length (withBit i on ws) ≡ length ws
 unfolding withBit
 with-length i on ws = simp length-set
 
-pub with-at : (j : ℕ) (on : Bool) (ws : List ℕ) → j / 64 < length ws → (i : ℕ) → bitAt (withBit j on ws) i ≡ cond (eqb i j) on (bitAt ws i)
+pub with-at : (j : ℕ) (on : Bool) (ws : List ℕ) → j / wordBits < length ws → (i : ℕ) → bitAt (withBit j on ws) i ≡ cond (eqb i j) on (bitAt ws i)
 unfolding bitAt withBit
-with-at j on ws h i = rw (set-at ws (j / 64) (withBitOf (j % 64) on (getD ws (j / 64) 0)) h (i / 64)) (go (eqb (i / 64) (j / 64)) refl)
+with-at j on ws h i = rw (set-at ws (j / wordBits) (withBitOf (j % wordBits) on (getD ws (j / wordBits) 0)) h (i / wordBits)) (go (eqb (i / wordBits) (j / wordBits)) refl)
   where
-    go : (p : Bool) → eqb (i / 64) (j / 64) ≡ p →
-        eqb (bitOf (cond p (withBitOf (j % 64) on (getD ws (j / 64) 0)) (getD ws (i / 64) 0)) (i % 64)) 1 ≡ cond (eqb i j) on (eqb (bitOf (getD ws (i / 64) 0) (i % 64)) 1)
+    go : (p : Bool) → eqb (i / wordBits) (j / wordBits) ≡ p →
+        eqb (bitOf (cond p (withBitOf (j % wordBits) on (getD ws (j / wordBits) 0)) (getD ws (i / wordBits) 0)) (i % wordBits)) 1 ≡ cond (eqb i j) on (eqb (bitOf (getD ws (i / wordBits) 0) (i % wordBits)) 1)
     go true p =
-        let e : i / 64 ≡ j / 64 = eqb-true _ _ p in
-        rw (with-bit-of (j % 64) on (getD ws (j / 64) 0) (i % 64) (omega arith) (omega arith), bit-split i j e, e)
-    go false p = rw (ne-eqb i j (λ q. eqb-false (i / 64) (j / 64) p (ap (λ x. x / 64) q)))
+        let e : i / wordBits ≡ j / wordBits = eqb-true _ _ p in
+        rw (with-bit-of (j % wordBits) on (getD ws (j / wordBits) 0) (i % wordBits) (omega arith) (omega arith), bit-split i j e, e)
+    go false p = rw (ne-eqb i j (λ q. eqb-false (i / wordBits) (j / wordBits) p (ap (λ x. x / wordBits) q)))
 
 -- the parts of the bitmaps
 
 -- a list of words that has four parts of n bits
 abbrev pub Four : ℕ → List ℕ → Type 0
-Four n ws = 4 * n ≤ 64 * length ws
+Four n ws = 4 * n ≤ wordBits * length ws
 
 abbrev pub partNumber : Part → ℕ
 partNumber allocated = 0
@@ -164,7 +164,7 @@ place-is n gray w = refl
 place-is n pointer w = refl
 
 -- the word of a bit lies in the bitmaps
-pub place-fits : (n : ℕ) (q : Part) (w : ℕ) (ws : List ℕ) → w < n → Four n ws → place n q w / 64 < length ws
+pub place-fits : (n : ℕ) (q : Part) (w : ℕ) (ws : List ℕ) → w < n → Four n ws → place n q w / wordBits < length ws
 place-fits n allocated w ws h f = omega arith
 place-fits n marked w ws h f = omega arith
 place-fits n gray w ws h f = omega arith

@@ -5,7 +5,7 @@ use lib.Bits.{bitAnd}
 use lib.Count.{trailingZeros}
 use lib.ListN.{getD}
 use denote.Ref.{now}
-use Rattle.model.specs.Memory.{pageBlocks, markedPart}
+use Rattle.model.specs.Memory.{wordBits, pageBlocks, markedPart}
 use Rattle.bitmap.proofs.Bits.{trailing-fits}
 use Rattle.bitmap.proofs.Scan.{None, Passed, whole-word}
 use Rattle.bitmap.proofs.Search.{Masked, masked-first, masked-next, passFrom, none-passed, found, none-found}
@@ -16,7 +16,7 @@ use Rattle.bitmap_search.proofs.next_freed.Statement.{statement}
 use Rattle.bitmap_search.proofs.next_freed.Tie as tie
 
 abbrev Inv-loop : tie.InvT-loop
-Inv-loop p bits to low marks end at₀ mask₀ at mask = Masked low at mask × None (passFrom (isFreed p bits) low) (at * 64)
+Inv-loop p bits to low marks end at₀ mask₀ at mask = Masked low at mask × None (passFrom (isFreed p bits) low) (at * wordBits)
 
 abbrev μ-loop : tie.MeasureT-loop
 μ-loop p bits to low marks end at₀ mask₀ at mask = end - at
@@ -60,7 +60,7 @@ returns-2 c =
     let l = c .before .loop in
     let s = start (c .before) in
     let a = s .args in
-    none-found (isFreed (a .p) (now (a .bits))) (a .from .0) (a .to .0) (s .pre .1 .order) (l .at * 64) (l .inv .1) (omega arith)
+    none-found (isFreed (a .p) (now (a .bits))) (a .from .0) (a .to .0) (s .pre .1 .order) (l .at * wordBits) (l .inv .1) (omega arith)
 
 pub next-freed-spec : {M : Type 1} → statement M
 next-freed-spec =
