@@ -1,9 +1,9 @@
 -- What setup leaves is the fresh heap, for buffers of the lengths that P asks for.
 use mathlib.Core.List.{List}
-use mathlib.Core.Path.{refl, ap, _∙_}
+use mathlib.Core.Path.{refl}
 use Prim.Native.Nat.{ℕ}
 use Rattle.model.specs.Memory.{Heap}
-use Rattle.model.specs.Answers.{Meets, numbers}
+use Rattle.model.specs.Answers.{Meets}
 use Rattle.model.specs.Records.{fresh, setup}
 use Rattle.model.specs.Facts.{Sized}
 use Rattle.model.specs.declared.Answer.{Answer}

@@ -1,5 +1,5 @@
 -- The calls on records, stacks and globals, accepted or refused, on a heap that passes the audit.
-use Prim.Native.Nat.{ℕ, _+_, _-_, _*_, _<_}
+use Prim.Native.Nat.{ℕ, _+_, _*_, _<_}
 use mathlib.Core.List.{List}
 use mathlib.Core.Bool.{true, false}
 use mathlib.Core.Path.{_≡_, refl, ap, sym, _∙_}
@@ -8,7 +8,6 @@ use lib.ListN.{set}
 use borrow.Author.Tests.{lt-ltb, eq-eqb}
 use Rattle.marking.specs.WordHeap.{recordIn}
 use Rattle.marking.specs.Event.{Source}
-use Rattle.marking.specs.Trace.{Step}
 use Rattle.marking.specs.Trace
 use Rattle.model.specs.Memory.{Heap, withArena, withBits, withTable, setRoot, slot, global, word, addressOf, slotAt, globalAt, stackCount, slotCount, pageWords, openState, closed}
 use Rattle.model.specs.Bitmaps.{pointer}

@@ -1,6 +1,6 @@
 -- What a call comes to (`Happens`): a step of the theory, and what it answered. Every outcome is split by its refusal; what the view shows of slots,
 -- stacks and words is here too. That a call keeps the audit is the law of the crate keeps.
-use Prim.Native.Nat.{ℕ, _+_, _-_, _*_, _/_, _<_}
+use Prim.Native.Nat.{ℕ, _+_, _*_, _/_, _<_}
 use mathlib.Core.Bool.{Bool, true, false, not, cond, and-false}
 use mathlib.Core.Logic.{_≢_}
 use mathlib.Core.Path.{_≡_, refl, ap, sym}
@@ -8,10 +8,9 @@ use native.Mathlib.Omega.{arith}
 use lib.Dec.{T, eqb}
 use borrow.Author.Tests.{lt-ltb, eq-eqb, ne-eqb, eqb-true, eqb-false}
 use Rattle.marking.specs.WordHeap.{Phase, LegalColours, recordIn}
-use Rattle.marking.specs.WordHeap
 use Rattle.marking.specs.Trace.{Step}
 use Rattle.marking.specs.Trace
-use Rattle.model.specs.Memory.{Heap, choose, setRoot, slot, global, state, phase, word, words, slotAt, stackCount, slotCount, globalCount, pageWords, closed, off, mark, sweep}
+use Rattle.model.specs.Memory.{Heap, choose, setRoot, slot, global, state, phase, word, slotAt, stackCount, slotCount, globalCount, pageWords, closed, off, mark, sweep}
 use Rattle.model.specs.Spans.{spanOf, elementWords, pointerCount}
 use Rattle.model.specs.Answers.{outcome}
 use Rattle.model.specs.declared.Call.{Call}

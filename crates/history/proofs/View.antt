@@ -1,6 +1,6 @@
 -- The four buffers seen as the theory's heap of functions: arena words, bits and slots by number. What each call that changes the roots, the arena
 -- or the colours does to the buffers is, seen so, what the theory's call does.
-use Prim.Native.Nat.{ℕ, _+_, _-_, _*_, _/_, _<_, _≤_}
+use Prim.Native.Nat.{ℕ, _+_, _*_, _/_, _<_, _≤_}
 use mathlib.Core.List.{List}
 use mathlib.Core.Bool.{Bool, true, false, not, cond, _&&_, and-false}
 use mathlib.Core.Logic.{_≢_}
@@ -12,12 +12,10 @@ use borrow.Author.Tests.{ltb-true, ltb-false, lt-ltb, eq-eqb, ne-eqb, eqb-true, 
 use Rattle.marking.specs.Updates.{update, update2}
 use Rattle.marking.proofs.Updates.{update-is, update2-is}
 use Rattle.marking.specs.WordHeap.{Phase, marking, ColourBits, Elements, heapAssign, heapPut, heapStart, heapEndCycle, WordHeap}
-use Rattle.marking.specs.WordHeap
 use Rattle.model.specs.Bounded.{firstBelow}
-use Rattle.model.specs.Memory.{Heap, withArena, withRoots, setRoot, slotAt, phase, stackCount, slotCount, globalCount, firstGlobal, firstState, globalsStateAt, phaseAt, rootWords, pageWords, off, mark, closed, grayState}
+use Rattle.model.specs.Memory.{Heap, withArena, withRoots, setRoot, slotAt, stackCount, slotCount, globalCount, firstGlobal, firstState, globalsStateAt, phaseAt, rootWords, pageWords, off, mark, closed, grayState}
 use Rattle.model.specs.Bitmaps.{allocated, marked, gray, pointer, is}
 use Rattle.model.specs.Spans.{isFree, elementWords, spanOf}
-use Rattle.model.specs.Cycle.{scan}
 use Rattle.model.proofs.Tests.{eqb-shift}
 use Rattle.model.proofs.Words.{set-at}
 use Rattle.model.specs.Facts.{Audited, bit, scanAt, unsweptAt}

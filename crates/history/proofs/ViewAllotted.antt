@@ -1,5 +1,5 @@
 -- Allocation and sweep step, seen as the theory's steps.
-use Prim.Native.Nat.{ℕ, _+_, _-_, _*_, _/_, _<_, _≤_}
+use Prim.Native.Nat.{ℕ, _+_, _*_, _/_, _<_, _≤_}
 use mathlib.Core.List.{List}
 use mathlib.Core.Bool.{Bool, true, false, not, cond, _&&_, and-false}
 use mathlib.Core.Logic.{_⊎_, inl, inr}
@@ -10,7 +10,6 @@ use lib.Dec.{T, eqb, ltb}
 use borrow.Author.Tests.{lt-leb, ne-eqb}
 use Rattle.marking.specs.Updates.{update}
 use Rattle.marking.proofs.Updates.{update-is}
-use Rattle.marking.specs.WordHeap
 use Rattle.marking.specs.WordHeap.{Elements, Alike, heapAllocate, heapSweep, LegalColours}
 use Rattle.marking.specs.Event.{Write}
 use Rattle.marking.specs.Event

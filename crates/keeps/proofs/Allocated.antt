@@ -6,7 +6,7 @@ use mathlib.Core.Logic.{_⊎_, inl, inr, _≢_}
 use mathlib.Core.Path.{_≡_, refl, sym, _∙_}
 use native.Mathlib.Omega.{arith}
 use lib.ListN.{getD}
-use lib.Dec.{T, eqb, ltb, leb, ltb→lt, leb→le}
+use lib.Dec.{T, eqb, ltb, ltb→lt, leb→le}
 use borrow.Author.Tests.{ltb-true, eqb-true, not-true}
 use Rattle.model.specs.Bounded.{firstBelow}
 use Rattle.model.specs.Memory.{Heap, withTable, phase, state, firstWord, stackCount, slotCount, pageWords, unsweptFlag, closed, sweep}

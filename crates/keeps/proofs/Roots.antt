@@ -1,5 +1,5 @@
 -- Calls that change the roots alone keep the audit: a slot or a global set, a stack opened or closed, a stack scanned, start, and the end of a cycle.
-use Prim.Native.Nat.{ℕ, _+_, _-_, _*_, _<_, _≤_}
+use Prim.Native.Nat.{ℕ, _+_, _*_, _<_, _≤_}
 use mathlib.Core.List.{List}
 use mathlib.Core.Bool.{Bool, true, false, cond, true≢false}
 use mathlib.Core.Logic.{inl, _≢_}

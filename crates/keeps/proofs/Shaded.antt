@@ -9,7 +9,7 @@ use native.Mathlib.Omega.{arith}
 use lib.ListN.{getD, set, length-set}
 use lib.Dec.{T, eqb, eqb→eq}
 use borrow.Author.Tests.{eq-eqb, eqb-true, eqb-false}
-use Rattle.model.specs.Memory.{Heap, withArena, withBits, setRoot, slot, global, root, word, phase, stateAt, globalAt, stackCount, slotCount, globalCount, firstGlobal, firstState, globalsStateAt, pageWords, mark, closed}
+use Rattle.model.specs.Memory.{Heap, withArena, withBits, setRoot, slot, global, word, phase, stateAt, globalAt, stackCount, slotCount, globalCount, firstGlobal, firstState, globalsStateAt, pageWords, mark, closed}
 use Rattle.model.specs.Bitmaps.{Part, allocated, marked, gray, pointer, is, putBit}
 use Rattle.model.specs.Spans.{elementOf, spanOf, kept, pointerCount, elementWords, recordOf}
 use Rattle.model.specs.Shading.{shade, shadeAll, barrier}

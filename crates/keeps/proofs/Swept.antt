@@ -19,7 +19,7 @@ use Rattle.model.specs.Facts.{IsSpan, Element, Audited, Bits, Phases, Reference
 use Rattle.model.proofs.Spans.{startIn, start-same, span-of, in-span, at-home, spans-apart, element-word, round, whole, fits}
 use Rattle.model.proofs.Effects.{swept-at, swept-length}
 use Rattle.model.proofs.Named.{kept-allocated, refers-over}
-use Rattle.keeps.proofs.SweptTable.{within-no, scaled, swept, inside, low, own, outside, gone, stays, same-out, same-left, page-out, swept-spans, table-length}
+use Rattle.keeps.proofs.SweptTable.{within-no, scaled, swept, inside, own, outside, gone, stays, same-out, same-left, page-out, swept-spans, table-length}
 use Rattle.keeps.proofs.Tables.{Like, like, like-scan, like-element, like-in, like-first}
 
 module _ {h : Heap} (F : Audited h) (s : ℕ) (span : IsSpan (h .table) s) (unswept : unsweptFlag ≤ kindEntry (h .table) s) where

@@ -8,7 +8,7 @@ use native.Mathlib.Omega.{arith}
 use lib.Dec.{T, eqb, ltb}
 use borrow.Author.Tests.{eqb-true, eqb-false, ltb-true, ltb-false}
 use Rattle.model.specs.Bounded.{allBelow, someBelow}
-use Rattle.model.specs.Memory.{Heap, goodBuffers, words, state, phase, slot, globalsState, stackCount, slotCount, globalCount, wordBytes, mark, sweep, closed, grayState}
+use Rattle.model.specs.Memory.{Heap, goodBuffers, words, state, phase, globalsState, stackCount, slotCount, globalCount, wordBytes, mark, sweep, closed, grayState}
 use Rattle.model.specs.Answers.{_given_, _orElse_, badBuffers, damaged, sweepFirst, noRoom}
 use Rattle.model.specs.Bitmaps.{is, gray}
 use Rattle.model.specs.Spans.{elementWords, spanOf, pointerCount}

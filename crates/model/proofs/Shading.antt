@@ -1,6 +1,6 @@
 -- Laws of shading: what each part of the bitmaps is after one value was shaded, and after many. Every value must be nil or the address of a word
 -- of the arena (`There`).
-use Prim.Native.Nat.{ℕ, zero, suc, _-_, _*_, _<_}
+use Prim.Native.Nat.{ℕ, zero, suc, _*_, _<_}
 use mathlib.Core.Bool.{Bool, true, false, not, cond, _&&_, _||_, or-true, or-false, and-false, and-true}
 use mathlib.Core.List.{List}
 use mathlib.Core.Path.{_≡_, refl, sym, _∙_}

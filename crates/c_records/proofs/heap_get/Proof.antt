@@ -3,7 +3,6 @@ use mathlib.Core.Path.{sym, _∙_}
 use Rattle.model.specs.declared.Call.the-variants.{Get}
 use Rattle.model.proofs.Checks.{entry-passed}
 use Rattle.model.proofs.Outcomes.{entered, not-entered}
-use borrow.Author.Needs.{needs}
 use Rattle.c_records.proofs.heap_get.Statement.{statement}
 use Rattle.c_records.proofs.heap_get.Tie as tie
 

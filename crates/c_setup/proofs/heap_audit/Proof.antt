@@ -2,7 +2,6 @@
 use mathlib.Core.Path.{refl, sym, _∙_}
 use Rattle.model.specs.declared.Call.the-variants.{Audit}
 use Rattle.model.proofs.Outcomes.{entered, not-entered}
-use borrow.Author.Needs.{needs}
 use Rattle.c_setup.proofs.heap_audit.Statement.{statement}
 use Rattle.c_setup.proofs.heap_audit.Tie as tie
 

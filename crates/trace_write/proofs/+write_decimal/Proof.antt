@@ -1,5 +1,5 @@
 -- `trace_write::write_decimal` meets its contract. The measure is the number itself, which a division by 10 makes less.
-use Prim.Native.Nat.{_+_, ℕ, _<_}
+use Prim.Native.Nat.{ℕ, _<_}
 use native.Mathlib.Omega.{arith}
 use Rattle.trace_write.proofs.Bytes.{decimal-digit, decimal-step, length-digit, length-step, then, byte}
 use borrow.Author.Needs.{needs}
