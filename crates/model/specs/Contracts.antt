@@ -50,10 +50,6 @@ abbrev pub Does : (Heap → Outcome) → ℕ → Buffer → Buffer → Buffer �
 Does call p arena table bits roots r =
     Meets (call (found p arena table bits roots)) r (now (arena .exit)) (now (table .exit)) (now (bits .exit)) (now (roots .exit))
 
--- what a public call promises, for every input
-abbrev pub Makes : Call → ℕ → Buffer → Buffer → Buffer → Buffer → Answer → Type 0
-Makes c p arena table bits roots r = Does (λ h. run h c) p arena table bits roots r
-
 -- so they are for every arena, of a call that is not lent it
 abbrev pub DoesWithoutArena : (Heap → Outcome) → ℕ → Buffer → Buffer → Buffer → Answer → Type 0
 DoesWithoutArena call p table bits roots r =
@@ -70,3 +66,7 @@ GivesByRoots f roots n = (p : ℕ) (a t b : List ℕ) → n ≡ f (lent p a t b 
 -- the roots that a change of the heap leaves, by the roots alone
 abbrev pub LeavesRoots : (Heap → Heap) → Buffer → Type 0
 LeavesRoots change roots = (p : ℕ) (a t b : List ℕ) → now (roots .exit) ≡ change (lent p a t b (now (roots .entry))) .roots
+
+-- what a public call promises, for every input: the entry check, and then the call
+abbrev pub Makes : Call → ℕ → Buffer → Buffer → Buffer → Buffer → Answer → Type 0
+Makes c p arena table bits roots r = Does (λ h. run h c) p arena table bits roots r
