@@ -23,17 +23,9 @@ pub fn make(
         Call::Audit => Answer::Done,
         Call::Open(s) => call_stacks::open_stack(roots, s),
         Call::Close(s) => call_stacks::close_stack(roots, s),
-        Call::Allocate(s, i, size, pointers) => call_allocate::allocate(
-            n,
-            arena,
-            table,
-            bits,
-            roots,
-            s,
-            i,
-            size,
-            pointers,
-        ),
+        Call::Allocate(s, i, size, pointers) => {
+            call_allocate::allocate(n, arena, table, bits, roots, s, i, size, pointers)
+        }
         Call::Copy(s, i, j) => call_stacks::copy(roots, s, i, j),
         Call::Clear(s, i) => call_stacks::clear(roots, s, i),
         Call::Load(s, i, j, f) => call_records::load(n, arena, table, bits, roots, s, i, j, f),
