@@ -71,18 +71,4 @@ returns c = let e : c .before .loop .k ≡ c .before .before .args .n = omega ar
 pub copy-words-spec : {M : Type 1} → statement M
 copy-words-spec =
     tie.close
-    (tie.spec
-    Inv-loop
-    μ-loop
-    loop-holds
-    add-at
-    add-w
-    mul-w
-    slice-read-w
-    add-k
-    mul-ws
-    slice-write-ws
-    loop-less
-    loop-again
-    same-length
-    returns)
+    (tie.spec Inv-loop μ-loop loop-holds add-at add-w mul-w slice-read-w add-k mul-ws slice-write-ws loop-less loop-again same-length returns)

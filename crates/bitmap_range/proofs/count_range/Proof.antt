@@ -76,16 +76,4 @@ returns c = let e : c .before .loop .k ≡ c .before .before .args .n = omega ar
 pub count-range-spec : {M : Type 1} → statement M
 count-range-spec =
     tie.close
-    (tie.spec
-    Inv-loop
-    μ-loop
-    loop-holds
-    add-w
-    mul-w
-    shared-slice-read-w
-    add-k
-    cast-total
-    add-total
-    loop-less
-    loop-again
-    returns)
+    (tie.spec Inv-loop μ-loop loop-holds add-w mul-w shared-slice-read-w add-k cast-total add-total loop-less loop-again returns)

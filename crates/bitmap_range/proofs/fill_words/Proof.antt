@@ -46,17 +46,4 @@ returns : tie.Need-returns Inv-loop μ-loop
 returns c = let e : c .before .loop .k ≡ c .before .before .args .n = omega arith in rw e at (c .before .loop .inv .2)
 
 pub fill-words-spec : {M : Type 1} → statement M
-fill-words-spec =
-    tie.close
-    (tie.spec
-    Inv-loop
-    μ-loop
-    loop-holds
-    add-at
-    add-k
-    mul-ws
-    slice-write-ws
-    loop-less
-    loop-again
-    same-length
-    returns)
+fill-words-spec = tie.close (tie.spec Inv-loop μ-loop loop-holds add-at add-k mul-ws slice-write-ws loop-less loop-again same-length returns)

@@ -129,23 +129,5 @@ returns-2 c =
 pub clear-freed-spec : {M : Type 1} → statement M
 clear-freed-spec =
     tie.close
-    (tie.spec
-    Inv-loop
-    μ-loop
-    returns
-    element-words-requires
-    mul-pointers
-    mul-pointers-2
-    add-after
-    first-word-requires
-    first-word-requires-2
-    next-freed-requires
-    loop-holds
-    add-clear-range
-    clear-range-requires
-    add-next
-    next-freed-requires-2
-    loop-less
-    loop-again
-    same-length
-    returns-2)
+    (tie.spec Inv-loop μ-loop returns element-words-requires mul-pointers mul-pointers-2 add-after first-word-requires first-word-requires-2
+    next-freed-requires loop-holds add-clear-range clear-range-requires add-next next-freed-requires-2 loop-less loop-again same-length returns-2)
