@@ -1,6 +1,6 @@
 -- `page_table::span_with_word` meets its contract.
 use Prim.Native.Nat.{_-_}
-use mathlib.Core.Path.{_∙_, ap}
+use mathlib.Core.Path.{ap}
 use native.Mathlib.Omega.{arith}
 use borrow.Author.Needs.{needs}
 use Rattle.model.specs.Spans.{owner}
@@ -14,7 +14,7 @@ span-at-requires : tie.Need-span-at-requires
 span-at-requires c κs =
     let k = c .before in
     let s = k .before .before in
-    omega (arith, c .span-of-page .ensures ∙ ap (λ g. owner (s .args .table .now) g - 1) (k .page .ensures), s .pre .span)
+    omega (arith, c .span-of-page .ensures, ap (λ g. owner (s .args .table .now) g - 1) (k .page .ensures), s .pre .span)
 
 returns : tie.Need-returns
 returns c = let k = c .before in rw (← k .before .page .ensures, ← k .span-of-page .ensures) (c .span-at .ensures)
