@@ -124,7 +124,7 @@ fn entry_ok(span: Span) -> bool
     if ENTRIES_END <= entry {
         return false;
     }
-    if classes::ROWS < class {
+    if class_table::ROWS < class {
         return false;
     }
     if class != 0 {

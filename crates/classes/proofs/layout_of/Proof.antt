@@ -3,7 +3,7 @@ use native.Mathlib.Omega.{arith}
 use borrow.Author.Needs.{needs}
 use borrow.Author.Tests.{eq-eqb}
 use Rattle.model.specs.Classes.{elementWordsOf, elementsOf}
-use Rattle.classes.proofs.Rows.{row-facts, row-layout}
+use Rattle.class_table.proofs.Rows.{row-facts, row-layout}
 use Rattle.classes.proofs.layout_of.Statement.{statement}
 use Rattle.classes.proofs.layout_of.Tie as tie
 

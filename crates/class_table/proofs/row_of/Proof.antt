@@ -1,8 +1,8 @@
 -- `classes::row_of` meets its contract.
 use borrow.Author.Needs.{needs}
-use Rattle.classes.proofs.Compact.{row-at}
-use Rattle.classes.proofs.row_of.Statement.{statement}
-use Rattle.classes.proofs.row_of.Tie as tie
+use Rattle.class_table.proofs.Compact.{row-at}
+use Rattle.class_table.proofs.row_of.Statement.{statement}
+use Rattle.class_table.proofs.row_of.Tie as tie
 
 returns : tie.Need-returns
 returns c = row-at _ (c .before .table .ensures) (c .before .before .args .c)

@@ -7,8 +7,8 @@ use lib.ListN.{getD, List·getD-map}
 use Rattle.model.specs.declared.ClassRow.{ClassRow}
 use Rattle.model.specs.Memory.{pageBytes, wordBytes}
 use Rattle.model.specs.Classes.{_per_, rows, classRows, elementBytes, spanBytes, maxSmall, classPages}
-use Rattle.classes.specs.declared.Row.{Row}
-use Rattle.classes.proofs.Rows.{row-facts}
+use Rattle.class_table.specs.declared.Row.{Row}
+use Rattle.class_table.proofs.Rows.{row-facts}
 
 abbrev compact : ClassRow → Row
 compact r = (r .element / wordBytes, r .span / pageBytes)

@@ -10,9 +10,9 @@ use borrow.Author.Tests.{lt-ltb, le-ltb, le-leb, lt-leb}
 use Rattle.model.specs.Bounded.{_≤?_}
 use Rattle.model.specs.Classes.{rows, maxSmall, elementBytes, classOf}
 use Rattle.model.proofs.Bounded.{first-is}
-use Rattle.classes.proofs.Compact.{bytes-at, small-at}
-use Rattle.classes.proofs.class_of.Statement.{statement}
-use Rattle.classes.proofs.class_of.Tie as tie
+use Rattle.class_table.proofs.Compact.{bytes-at, small-at}
+use Rattle.class_table.proofs.class_of.Statement.{statement}
+use Rattle.class_table.proofs.class_of.Tie as tie
 
 -- class k + 1 has an element as large as the size
 abbrev holds : ℕ → ℕ → Bool

@@ -1,8 +1,8 @@
 -- `classes::table` meets its contract: the code's table and the model's rows are one list.
 use mathlib.Core.Path.{refl}
 use Rattle.model.specs.Classes.{classRows}
-use Rattle.classes.proofs.table.Statement.{statement}
-use Rattle.classes.proofs.table.Tie as tie
+use Rattle.class_table.proofs.table.Statement.{statement}
+use Rattle.class_table.proofs.table.Tie as tie
 
 returns : tie.Need-returns
 unfolding classRows
