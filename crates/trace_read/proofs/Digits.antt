@@ -68,17 +68,18 @@ module _ (line : List ℕ) (i : ℕ) where
   stops v h l e = rw (next h, digit-no (getD line i 0) e) (fits-ended v _ l)
 
   -- a digit after a leading zero
-  pub leads : i < length line → (digitOf (getD line i 0) ≡ 10 → ⊥) → digits 0 (drop i line) ≡ unread
+  pub leads : (v : ℕ) → i < length line → v ≡ 0 → (digitOf (getD line i 0) ≡ 10 → ⊥) → digits v (drop i line) ≡ unread
   unfolding digits
-  leads h e = rw (next h, digit-yes (getD line i 0) e)
+  leads v h z e = rw (z, next h, digit-yes (getD line i 0) e)
 
-  pub goes-on : (v : ℕ) → i < length line → (v ≡ 0 → ⊥) → (digitOf (getD line i 0) ≡ 10 → ⊥) → digits v (drop i line) ≡ digits (v * 10 + digitOf (getD line i 0)) (drop (i + 1) line)
+  -- .. after another number, which it makes larger
+  pub goes-on : (v : ℕ) {d : ℕ} → i < length line → (v ≡ 0 → ⊥) → d ≡ digitOf (getD line i 0) → (d ≡ 10 → ⊥) → digits v (drop i line) ≡ digits (v * 10 + d) (drop (i + 1) line)
   unfolding digits
-  goes-on v h z e = rw (next h, digit-yes (getD line i 0) e, ne-eqb v 0 z)
+  goes-on v h z d e = rw (d, next h, digit-yes (getD line i 0) (λ x. e (d ∙ x)), ne-eqb v 0 z)
 
-  -- .. that makes the number too large
-  pub overflows : (v : ℕ) → i < length line → (v ≡ 0 → ⊥) → (digitOf (getD line i 0) ≡ 10 → ⊥) → 2 ^ 64 ≤ v * 10 + digitOf (getD line i 0) → digits v (drop i line) ≡ unread
-  overflows v h z e l = goes-on v h z e ∙ too-large _ (drop (i + 1) line) l
+  -- .. too large
+  pub overflows : (v : ℕ) {d : ℕ} → i < length line → (v ≡ 0 → ⊥) → d ≡ digitOf (getD line i 0) → (d ≡ 10 → ⊥) → 2 ^ 64 ≤ v * 10 + d → digits v (drop i line) ≡ unread
+  overflows v h z d e l = goes-on v h z d e ∙ too-large _ (drop (i + 1) line) l
 
   -- what stands at a place where a number may begin
   pub no-more : length line ≤ i → numbersOf (drop i line) ≡ none

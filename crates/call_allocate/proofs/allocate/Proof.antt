@@ -8,7 +8,7 @@ use Rattle.call_allocate.proofs.allocate.Statement.{statement}
 use Rattle.call_allocate.proofs.allocate.Tie as tie
 
 -- places: the function's entry, from where the allocation is accepted and where it is refused; the accepted place, from where the table is extended;
--- that one, from where the slot's place is known; and that one, from where the element is taken
+-- that one, from where the slot's place is known; that one, from where the element is taken; and that one, from the end
 abbrev start : tie.Else1 → tie.Start
 start c = c .before .before .before .before .before .before .before .before .before
 
@@ -23,6 +23,9 @@ made c = c .before .before .before
 
 abbrev aimed : tie.After-take → tie.After-slot-at
 aimed c = c .before .before .before .before
+
+abbrev taken : tie.After-slice-known8 → tie.After-take
+taken c = c .before .before .before .before .before .before
 
 abbrev heap : tie.Start → Heap
 heap s = lent (s .args .p) (now (s .args .arena)) (now (s .args .table)) (now (s .args .bits)) (now (s .args .roots))
@@ -55,7 +58,7 @@ take-requires c κs =
 
 returns-2 : tie.Need-returns-2
 returns-2 c =
-    let t = c .before .before .before .before .before .before in
+    let t = taken c in
     let k = aimed t in
     let d = accepted (made k) in
     let s = start d in

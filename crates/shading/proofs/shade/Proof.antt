@@ -11,16 +11,19 @@ use borrow.Author.Needs.{needs}
 use Rattle.shading.proofs.shade.Statement.{statement}
 use Rattle.shading.proofs.shade.Tie as tie
 
--- the places in the code, each from a later one: the entry, the value's word known, its record known to be white, its span read, the span known to be
--- scan
+-- the places in the code, each from a later one: the entry, the value's word known, its record known to be white (from where its span is asked for, and
+-- from where it is read), the span known to be scan
 abbrev start : tie.After-word → tie.Start
 start c = c .before .before .before .before .before
 
 abbrev word : tie.Else2 → tie.After-word
 word c = c .before .before .before
 
+abbrev white-asked : tie.After-slice-known2 → tie.Else2
+white-asked c = c .before .before .before .before
+
 abbrev white : tie.After-span-with-word → tie.Else2
-white c = c .before .before .before .before .before
+white c = white-asked (c .before)
 
 abbrev scan : tie.After-slice-known3 → tie.Else3
 scan c = c .before .before .before .before
@@ -47,7 +50,7 @@ set-requires c κs = let d = word (c .before) in omega (arith, named d, start d 
 
 span-with-word-requires : tie.Need-span-with-word-requires
 span-with-word-requires c κs =
-    let d = word (c .before .before .before .before) in
+    let d = word (white-asked c) in
     record { page = omega (arith, d .word .ensures, named d .word, start d .pre); span = rw (d .word .ensures) (omega (arith, named d .span, start d .pre)) }
 
 returns-3 : tie.Need-returns-3

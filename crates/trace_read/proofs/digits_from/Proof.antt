@@ -16,25 +16,25 @@ Inv-loop line at first v₀ i₀ v i = (i ≤ length line) × (v < 2 ^ 64) × (d
 abbrev μ-loop : tie.MeasureT-loop
 μ-loop line at first v₀ i₀ v i = length line - i
 
--- the places in the code that the proof looks back to
-abbrev at-loop-at-sub-if3 : tie.Else2 Inv-loop μ-loop → tie.At-loop Inv-loop μ-loop
-at-loop-at-sub-if3 c = c .before .before .before .before .before
+-- A turn's start, from where the byte is no digit, from where it is one and from where it follows no leading zero; and the function's entry.
+abbrev stopped : tie.Then1 Inv-loop μ-loop → tie.At-loop Inv-loop μ-loop
+stopped c = c .before .before .before .before
+
+abbrev read : tie.Else1 Inv-loop μ-loop → tie.At-loop Inv-loop μ-loop
+read c = c .before .before .before .before
+
+abbrev going : tie.Else2 Inv-loop μ-loop → tie.At-loop Inv-loop μ-loop
+going c = read (c .before)
 
 abbrev start : tie.Else2 Inv-loop μ-loop → tie.Start Inv-loop μ-loop
-start c = at-loop-at-sub-if3 c .before .before
-
-abbrev at-loop : tie.Then1 Inv-loop μ-loop → tie.At-loop Inv-loop μ-loop
-at-loop c = c .before .before .before .before
-
-abbrev at-loop-at-returns-3 : tie.Then3 Inv-loop μ-loop → tie.At-loop Inv-loop μ-loop
-at-loop-at-returns-3 c = at-loop-at-sub-if3 (c .before)
+start c = going c .before .before
 
 loop-holds : tie.Need-loop-holds Inv-loop μ-loop
 loop-holds c = (c .before .pre, omega arith, refl)
 
 returns : tie.Need-returns Inv-loop μ-loop
 returns c =
-    let s = at-loop c in
+    let s = stopped c in
     (omega arith, s .loop .inv .2 ∙ stops _ (s .loop .i) (s .loop .v) (omega arith) (s .loop .inv .1) (sym (c .before .digit .ensures) ∙ c .if1 .taken))
 
 add-i : tie.Need-add-i Inv-loop μ-loop
@@ -42,17 +42,16 @@ add-i c = omega arith
 
 returns-2 : tie.Need-returns-2 Inv-loop μ-loop
 returns-2 c =
-    let s = c .before .before .before .before .before in
-    s .loop .inv .2 ∙ rw (c .if2 .taken) (leads _ (s .loop .i) (omega arith) (λ e. c .before .if1 .left (c .before .before .digit .ensures ∙ e)))
+    let s = read (c .before) in
+    s .loop .inv .2 ∙ leads _ (s .loop .i) (s .loop .v) (omega arith) (c .if2 .taken) (λ e. c .before .if1 .left (c .before .before .digit .ensures ∙ e))
 
 sub-if3 : tie.Need-sub-if3 Inv-loop μ-loop
-sub-if3 c = omega (arith, c .before .before .digit .ensures, digit-small (getD (now (start c .args .line)) (at-loop-at-sub-if3 c .loop .i) 0))
+sub-if3 c = omega (arith, c .before .before .digit .ensures, digit-small (getD (now (start c .args .line)) (going c .loop .i) 0))
 
 returns-3 : tie.Need-returns-3 Inv-loop μ-loop
 returns-3 c =
-    let s = at-loop-at-returns-3 c in
-    let e = c .before .before .before .digit .ensures in
-    s .loop .inv .2 ∙ overflows _ (s .loop .i) (s .loop .v) (omega arith) (c .before .if2 .left) (λ d. c .before .before .if1 .left (e ∙ d)) (rw (← e) (omega arith))
+    let s = going (c .before) in
+    s .loop .inv .2 ∙ overflows _ (s .loop .i) (s .loop .v) (omega arith) (c .before .if2 .left) (c .before .before .before .digit .ensures) (c .before .before .if1 .left) (omega arith)
 
 mul-v : tie.Need-mul-v Inv-loop μ-loop
 mul-v c = omega arith
@@ -65,9 +64,8 @@ loop-less c = omega arith
 
 loop-again : tie.Need-loop-again Inv-loop μ-loop
 loop-again c =
-    let s = c .before .before .before .before .before .before in
-    let e = c .before .before .before .digit .ensures in
-    (omega arith, omega arith, s .loop .inv .2 ∙ rw e (goes-on _ (s .loop .i) (s .loop .v) (omega arith) (c .before .if2 .left) (λ d. c .before .before .if1 .left (e ∙ d))))
+    let s = going (c .before) in
+    (omega arith, omega arith, s .loop .inv .2 ∙ goes-on _ (s .loop .i) (s .loop .v) (omega arith) (c .before .if2 .left) (c .before .before .before .digit .ensures) (c .before .before .if1 .left))
 
 returns-4 : tie.Need-returns-4 Inv-loop μ-loop
 returns-4 c = (c .before .loop .inv .0, c .before .loop .inv .2 ∙ ends _ (c .before .loop .i) (c .before .loop .v) (omega arith) (c .before .loop .inv .1))

@@ -26,6 +26,16 @@ write-decimal-below t =
     (falls 1 write-decimal-kinds.ps _<_ μ-write-decimal t)
     write-decimal.Pre
 
+-- the function's entry, from the end
+abbrev write-decimal-start : (t : ℕ) → write-decimal-lts.After-slice-known2 (
+  write-decimal-below t,
+  write-decimal.Post,
+) (write-decimal-at t) write-decimal.Post → write-decimal-lts.Start (
+  write-decimal-below t,
+  write-decimal.Post,
+) (write-decimal-at t) write-decimal.Post
+write-decimal-start t c = c .before .before .before .before .before .before
+
 write-decimal-cast-out : (t : ℕ) → write-decimal-lts.Need-cast-out (
   write-decimal-below t,
   write-decimal.Post,
@@ -84,13 +94,13 @@ write-decimal-slice-write-out-2 : (t : ℕ) → write-decimal-lts.Need-slice-wri
   write-decimal-below t,
   write-decimal.Post,
 ) (write-decimal-at t) write-decimal.Post
-write-decimal-slice-write-out-2 t c = omega (arith, length-step (c .before .before .before .before .before .before .args .n) (omega arith) (omega arith), c .before .before .write-decimal .ensures .end, c .before .before .write-decimal .kept)
+write-decimal-slice-write-out-2 t c = omega (arith, length-step (write-decimal-start t c .args .n) (omega arith) (omega arith), c .before .before .write-decimal .ensures .end, c .before .before .write-decimal .kept)
 
 write-decimal-add-result-2 : (t : ℕ) → write-decimal-lts.Need-add-result-2 (
   write-decimal-below t,
   write-decimal.Post,
 ) (write-decimal-at t) write-decimal.Post
-write-decimal-add-result-2 t c = omega (arith, length-step (c .before .before .before .before .before .before .args .n) (omega arith) (omega arith), c .before .before .write-decimal .ensures .end)
+write-decimal-add-result-2 t c = omega (arith, length-step (write-decimal-start t c .args .n) (omega arith) (omega arith), c .before .before .write-decimal .ensures .end)
 
 write-decimal-same-length-2 : (t : ℕ) → write-decimal-lts.Need-same-length-2 (
   write-decimal-below t,
@@ -102,7 +112,7 @@ write-decimal-returns-2 : (t : ℕ) → write-decimal-lts.Need-returns-2 (
   write-decimal-below t,
   write-decimal.Post,
 ) (write-decimal-at t) write-decimal.Post
-write-decimal-returns-2 t c = rw (decimal-step (c .before .before .before .before .before .before .args .n) (omega arith) (omega arith)) (then (c .before .before .write-decimal .ensures) (byte _ _ _))
+write-decimal-returns-2 t c = rw (decimal-step (write-decimal-start t c .args .n) (omega arith) (omega arith)) (then (c .before .before .write-decimal .ensures) (byte _ _ _))
 
 pub +write-decimal-spec : {M : Type 1} → statement M
 +write-decimal-spec = close μ-write-decimal λ t. write-decimal-lts.spec (
