@@ -118,23 +118,13 @@ fn block_ok(
     let a = bits[at];
     let inside = below(left);
     let first = starts_in(starts, off) & inside;
-    if !colours_ok(
-        a,
-        bits[MARKED_PART * part + at],
-        bits[GRAY_PART * part + at],
-        first,
-        marks,
-        grays,
-    ) {
+    let m = bits[MARKED_PART * part + at];
+    let g = bits[GRAY_PART * part + at];
+    if !colours_ok(a, m, g, first, marks, grays) {
         return false;
     }
-    pointers_ok(
-        a & scans,
-        bits[POINTER_PART * part + at],
-        first,
-        inside & scans,
-        before,
-    )
+    let q = bits[POINTER_PART * part + at];
+    pointers_ok(a & scans, q, first, inside & scans, before)
 }
 
 // The bits of the span, whose elements have `size` words each and `held` together, keep the rules.

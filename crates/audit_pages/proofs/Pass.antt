@@ -62,15 +62,15 @@ first-of {p} {ph} {t} F s e = record { entry = F .spans .entry s e; inside = F .
 
 -- a span as its first page's entry describes it
 module _ (p ph : ℕ) (t : List ℕ) {s : ℕ} {r : Span} (R : Reads t s r) where
-  pub bad-entry : (b : Bool) → T b ↔ GoodEntry (r .entry) (r .pages) → not b ≡ true → GoodSpan p ph t s → ⊥
-  bad-entry b f e F = no b f e (rw (R .entry, R .pages) (F .entry))
+  pub bad-entry : (b : Bool) → T b ↔ GoodEntry (r .flagged) (r .pages) → not b ≡ true → GoodSpan p ph t s → ⊥
+  bad-entry b f e F = no b f e (rw (R .flagged, R .pages) (F .entry))
 
   pub bad-flag : (b : Bool) → T b ↔ (ph ≢ sweep → r .unswept ≡ false) → not b ≡ true → GoodSpan p ph t s → ⊥
   bad-flag b f e F = no b f e (λ d. R .unswept ∙ lt-leb unsweptFlag (kindEntry t s) (F .swept d))
 
-  pub span-iff : (b : Bool) → GoodEntry (r .entry) (r .pages) → s + r .pages ≤ p → (ph ≢ sweep → r .unswept ≡ false) → T b ↔ Body t s → T b ↔ GoodSpan p ph t s
+  pub span-iff : (b : Bool) → GoodEntry (r .flagged) (r .pages) → s + r .pages ≤ p → (ph ≢ sweep → r .unswept ≡ false) → T b ↔ Body t s → T b ↔ GoodSpan p ph t s
   span-iff b e i d f =
-      (λ x. record { entry = rw (R .entry, R .pages) at e; inside = rw (R .pages) at i; body = f .0 x; swept = λ q. leb-false unsweptFlag (kindEntry t s) (sym (R .unswept) ∙ d q) }, λ F. f .1 (F .body))
+      (λ x. record { entry = rw (R .flagged, R .pages) at e; inside = rw (R .pages) at i; body = f .0 x; swept = λ q. leb-false unsweptFlag (kindEntry t s) (sym (R .unswept) ∙ d q) }, λ F. f .1 (F .body))
 
   -- .. by the page that it names as its first
   pub own-span : (b : Bool) → T b ↔ GoodSpan p ph t (r .start .0) → T b ↔ GoodSpan p ph t s

@@ -19,7 +19,7 @@ pub reads-own : {t : List ℕ} {s : ℕ} {r : Span} → Reads t s r → Reads t 
 reads-own R = record {
   start = refl;
   pages = rw (R .start) (R .pages);
-  entry = rw (R .start) (R .entry);
+  flagged = rw (R .start) (R .flagged);
   kind = rw (R .start) (R .kind);
   class = rw (R .start) (R .class);
   scan = rw (R .start) (R .scan);

@@ -30,7 +30,7 @@ use units::SWEEP;
 use units::UNSWEPT_FLAG;
 
 // The end of the kinds, with the unswept flag.
-const ENTRIES_END: usize = 2 * UNSWEPT_FLAG as usize;
+const KINDS_END: usize = 2 * UNSWEPT_FLAG as usize;
 
 // The pages of a span of class 0, at least and at most.
 const FEWEST_LARGE: usize = 5;
@@ -115,13 +115,13 @@ pub fn states_ok(roots: &[u64]) -> bool
 // The kind is that of one of the classes, at most with the unswept flag, and the page count is its
 // class's.
 fn entry_ok(span: Span) -> bool
-    requires { ⌜ span .class ≡ span .entry % unsweptFlag / 2 ⌝ }
-    ensures { λ r. ⌜ (T r ↔ GoodEntry (span .entry) (span .pages)) ⌝ }
+    requires { ⌜ span .class ≡ span .flagged % unsweptFlag / 2 ⌝ }
+    ensures { λ r. ⌜ (T r ↔ GoodEntry (span .flagged) (span .pages)) ⌝ }
 {
-    let entry = span.entry;
+    let flagged = span.flagged;
     let class = span.class;
     let count = span.pages;
-    if ENTRIES_END <= entry {
+    if KINDS_END <= flagged {
         return false;
     }
     if class_table::ROWS < class {

@@ -37,8 +37,8 @@ fn free_in(p: usize, table: &[u32], bits: &[u64], kind: usize, s: Page) -> Free
         return nothing();
     }
     let span = page_table::span_at(table, s);
-    let entry = span.entry;
-    if entry != kind {
+    let flagged = span.flagged;
+    if flagged != kind {
         return nothing();
     }
     let elements = classes::layout_of(span.class, span.pages);

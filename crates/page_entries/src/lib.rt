@@ -110,7 +110,7 @@ fn nothing() -> Unswept
         span: Span {
             start: Page(0),
             pages: 0,
-            entry: 0,
+            flagged: 0,
             kind: 0,
             class: 0,
             scan: false,

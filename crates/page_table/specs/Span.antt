@@ -9,7 +9,7 @@ use Rattle.page_table.specs.declared.Span.{Span}
 pub record Reads (t : List ℕ) (s : ℕ) (r : Span) : Type 0 where
   pub start : r .start .0 ≡ s
   pub pages : r .pages ≡ pageCount t s
-  pub entry : r .entry ≡ kindEntry t s
+  pub flagged : r .flagged ≡ kindEntry t s
   pub kind : r .kind ≡ kindAt t s
   pub class : r .class ≡ classAt t s
   pub scan : r .scan ≡ isScan t s

@@ -77,12 +77,12 @@ fn span_of_page(table: &[u32], g: Page) -> Page
     Page(first - 1)
 }
 
-// A span as the entry of its first page describes it, read once and handed on. `entry` is the kind as
-// it stands there, with the unswept flag, and `kind` the kind without it.
+// A span as the entry of its first page describes it, read once and handed on. `flagged` is the kind
+// as it stands there, with the unswept flag, and `kind` the kind without it.
 pub struct Span {
     pub start: Page,
     pub pages: usize,
-    pub entry: usize,
+    pub flagged: usize,
     pub kind: usize,
     pub class: usize,
     pub scan: bool,
@@ -95,16 +95,16 @@ pub fn span_at(table: &[u32], s: Page) -> Span
     ensures { λ r. ⌜ Reads (now (table .entry)) (s .0) r ⌝ }
 {
     let flag = UNSWEPT_FLAG as usize;
-    let entry = kind_entry(table, s);
-    let kind = entry % flag;
+    let flagged = kind_entry(table, s);
+    let kind = flagged % flag;
     Span {
         start: s,
         pages: page_count(table, s),
-        entry: entry,
+        flagged: flagged,
         kind: kind,
         class: kind / 2,
         scan: kind % 2 == 0,
-        unswept: flag <= entry,
+        unswept: flag <= flagged,
     }
 }
 

@@ -34,7 +34,7 @@ span d = mapped-span (start d .pre .0) _ (first d)
 
 -- it is of the kind
 same : (d : tie.Else2) → let a = start (d .before .before) .args in kindEntry (now (a .table)) (a .s .0) ≡ a .kind
-same d = sym (d .before .span-at .ensures .entry) ∙ d .if2 .left
+same d = sym (d .before .span-at .ensures .flagged) ∙ d .if2 .left
 
 size-is : (c : tie.After-layout-of) → let a = start (spanned c) .args in c .layout-of .result .words ≡ elementWords (now (a .table)) (a .s .0)
 size-is c = let r = c .before .before .span-at .ensures in rw (r .class, r .pages) at (c .layout-of .ensures .0)
@@ -58,7 +58,7 @@ returns-2 : tie.Need-returns-2
 returns-2 c a o =
     let d = c .before .before .before in
     let s = start d .args in
-    absent _ _ _ _ (c .nothing2 .ensures) (rw (eq-eqb _ _ (first d), ne-eqb (kindEntry (now (s .table)) (s .s .0)) (s .kind) (rw (c .before .before .span-at .ensures .entry) at (c .before .if2 .taken))))
+    absent _ _ _ _ (c .nothing2 .ensures) (rw (eq-eqb _ _ (first d), ne-eqb (kindEntry (now (s .table)) (s .s .0)) (s .kind) (rw (c .before .before .span-at .ensures .flagged) at (c .before .if2 .taken))))
 
 layout-of-requires : tie.Need-layout-of-requires
 layout-of-requires c κs = let r = c .before .span-at .ensures in (rw (r .class) (class-within (span (c .before .before))), r .narrow)

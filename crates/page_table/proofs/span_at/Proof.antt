@@ -13,7 +13,7 @@ unfolding pageCount
 returns c =
     let k = c .before .kind-entry .ensures in
     let d = c .before .before in
-    record { start = refl; pages = c .page-count .ensures; entry = k; kind = rw k; class = rw k; scan = rw k; unswept = rw k; narrow = omega (arith, c .page-count .ensures, d .shared-slice-known .given (entryNumbers * d .before .args .s .0 + countOffset)) }
+    record { start = refl; pages = c .page-count .ensures; flagged = k; kind = rw k; class = rw k; scan = rw k; unswept = rw k; narrow = omega (arith, c .page-count .ensures, d .shared-slice-known .given (entryNumbers * d .before .args .s .0 + countOffset)) }
 
 pub span-at-spec : {M : Type 1} → statement M
 span-at-spec =
