@@ -8,7 +8,7 @@ use native.Mathlib.Nat.{zero-mod, add-mod-mod}
 use lib.Dec.{T, eqb, ltb, leb}
 use lib.ListN.{getD}
 use borrow.Author.Tests.{ltb-true, ltb-false, lt-ltb, le-ltb, eqb-true, eqb-false}
-use Rattle.model.specs.Memory.{pageWords, wordBits, pageBlocks, pointerPart}
+use Rattle.model.specs.Memory.{wordBits, pageBlocks, pointerPart}
 use Rattle.model.specs.Bounded.{allBelow}
 use Rattle.model.specs.Bitmaps.{bitOf, pointer}
 use Rattle.model.proofs.Tests.{is-true, of-true}
@@ -42,25 +42,25 @@ module _ (R : ℕ → Bool) (k : ℕ) where
   pub passes : (n : ℕ) → n ≤ k → ((o : ℕ) → o < wordBits * k → T (R o)) → true ≡ allBelow (wordBits * n) R
   passes n l f = sym (all-from (wordBits * n) R (λ o m. of-true _ (f o (omega arith))))
 
--- a block of a page
-pub page-block : (R : ℕ → Bool) (g k : ℕ) → allBelow wordBits (λ j. R (wordBits * (pageBlocks * g + k) + j)) ≡ allBelow wordBits (λ j. R (pageWords * g + (wordBits * k + j)))
-page-block R g k = all-cong wordBits (λ j. R (wordBits * (pageBlocks * g + k) + j)) (λ j. R (pageWords * g + (wordBits * k + j))) (λ j l. ap R (omega arith))
+-- block k from block f on
+pub block-from : (R : ℕ → Bool) (f k : ℕ) → allBelow wordBits (λ j. R (wordBits * (f + k) + j)) ≡ allBelow wordBits (λ j. R (wordBits * f + (wordBits * k + j)))
+block-from R f k = all-cong wordBits (λ j. R (wordBits * (f + k) + j)) (λ j. R (wordBits * f + (wordBits * k + j))) (λ j l. ap R (omega arith))
 
--- what stands at the beginning of block k of the span at page s
-pub record Stands (P : ℕ) (b : List ℕ) (s size held : ℕ) (allowed : Allowed) (k off left before : ℕ) : Type 0 where
+-- what stands at the beginning of block k of the span whose first block is f
+pub record Stands (P : ℕ) (b : List ℕ) (f size held : ℕ) (allowed : Allowed) (k off left before : ℕ) : Type 0 where
   pub near : off < size
   pub start : (wordBits * k + off) % size ≡ 0
   pub remains : left ≡ held - wordBits * k
-  pub last : on before 0 ≡ (ltb 0 (wordBits * k) && bit P pointer b (pageWords * s + (wordBits * k - 1)))
-  pub done : (o : ℕ) → o < wordBits * k → T (wordRule P b (pageWords * s) size held allowed o)
+  pub last : on before 0 ≡ (ltb 0 (wordBits * k) && bit P pointer b (wordBits * f + (wordBits * k - 1)))
+  pub done : (o : ℕ) → o < wordBits * k → T (wordRule P b (wordBits * f) size held allowed o)
 
 -- the highest bit of a word
 top-on : (x : ℕ) → on (x / 2 ^ 63) 0 ≡ on x 63
 unfolding bitOf
 top-on x = ap (λ y. eqb y 1) (bit-zero (x / 2 ^ 63))
 
-module _ (P : ℕ) (b : List ℕ) (s size held : ℕ) (allowed : Allowed) where
-  pub stands-first : 0 < size → Stands P b s size held allowed 0 0 held 0
+module _ (P : ℕ) (b : List ℕ) (f size held : ℕ) (allowed : Allowed) where
+  pub stands-first : 0 < size → Stands P b f size held allowed 0 0 held 0
   stands-first h =
       record { near = h; start = zero-mod size; remains = omega arith; last = on-none 0; done = λ o l. absurd (omega arith) }
 
@@ -72,7 +72,7 @@ module _ (P : ℕ) (b : List ℕ) (s size held : ℕ) (allowed : Allowed) where
         go true = refl
         go false = refl
 
-    module _ {k off left before : ℕ} (x : Stands P b s size held allowed k off left before) where
+    module _ {k off left before : ℕ} (x : Stands P b f size held allowed k off left before) where
       inside-is : (j : ℕ) → ltb j left ≡ ltb (wordBits * k + j) held
       inside-is j = go (ltb j left) refl
         where
@@ -83,34 +83,34 @@ module _ (P : ℕ) (b : List ℕ) (s size held : ℕ) (allowed : Allowed) where
       start-is : (j : ℕ) → j < 64 → (leb off j && on mask (j - off)) ≡ eqb ((wordBits * k + j) % size) 0
       start-is j l = rw (on-mask (j - off) (omega arith), starts-from size (wordBits * k) off j (x .near) (x .start))
 
-      follows-is : (j : ℕ) → cond (eqb j 0) (on before 0) (bit P pointer b (wordBits * (pageBlocks * s + k) + (j - 1))) ≡ (ltb 0 (wordBits * k + j) && bit P pointer b (pageWords * s + (wordBits * k + j - 1)))
+      follows-is : (j : ℕ) → cond (eqb j 0) (on before 0) (bit P pointer b (wordBits * (f + k) + (j - 1))) ≡ (ltb 0 (wordBits * k + j) && bit P pointer b (wordBits * f + (wordBits * k + j - 1)))
       follows-is j = go (eqb j 0) refl
         where
-          go : (c : Bool) → eqb j 0 ≡ c → cond c (on before 0) (bit P pointer b (wordBits * (pageBlocks * s + k) + (j - 1))) ≡ (ltb 0 (wordBits * k + j) && bit P pointer b (pageWords * s + (wordBits * k + j - 1)))
+          go : (c : Bool) → eqb j 0 ≡ c → cond c (on before 0) (bit P pointer b (wordBits * (f + k) + (j - 1))) ≡ (ltb 0 (wordBits * k + j) && bit P pointer b (wordBits * f + (wordBits * k + j - 1)))
           go true p =
               let e : wordBits * k + j ≡ wordBits * k = omega (arith, eqb-true j 0 p) in
               rw e (x .last)
           go false p =
-              let e : wordBits * (pageBlocks * s + k) + (j - 1) ≡ pageWords * s + (wordBits * k + j - 1) = omega (arith, eqb-false j 0 p) in
+              let e : wordBits * (f + k) + (j - 1) ≡ wordBits * f + (wordBits * k + j - 1) = omega (arith, eqb-false j 0 p) in
               rw (e, lt-ltb 0 (wordBits * k + j) (omega (arith, eqb-false j 0 p)))
 
-      pub block-words : {r : Bool} → r ≡ allBelow wordBits (blockRule P b (pageBlocks * s + k) mask off left before allowed) → r ≡ allBelow wordBits (λ j. wordRule P b (pageWords * s) size held allowed (wordBits * k + j))
-      block-words e = e ∙ all-cong wordBits _ (λ j. wordRule P b (pageWords * s) size held allowed (wordBits * k + j)) word
+      pub block-words : {r : Bool} → r ≡ allBelow wordBits (blockRule P b (f + k) mask off left before allowed) → r ≡ allBelow wordBits (λ j. wordRule P b (wordBits * f) size held allowed (wordBits * k + j))
+      block-words e = e ∙ all-cong wordBits _ (λ j. wordRule P b (wordBits * f) size held allowed (wordBits * k + j)) word
         where
-          word : (j : ℕ) → j < 64 → blockRule P b (pageBlocks * s + k) mask off left before allowed j ≡ wordRule P b (pageWords * s) size held allowed (wordBits * k + j)
+          word : (j : ℕ) → j < 64 → blockRule P b (f + k) mask off left before allowed j ≡ wordRule P b (wordBits * f) size held allowed (wordBits * k + j)
           word j l =
-              let e : wordBits * (pageBlocks * s + k) + j ≡ pageWords * s + (wordBits * k + j) = omega arith in
+              let e : wordBits * (f + k) + j ≡ wordBits * f + (wordBits * k + j) = omega arith in
               rw (e, start-is j l, inside-is j, follows-is j)
 
-      pub stands-next : pageBlocks * s + k < pageBlocks * P → (r : ℕ) → r < size → (r + wordBits) % size ≡ off → {ok : Bool} →
-          ok ≡ allBelow wordBits (λ j. wordRule P b (pageWords * s) size held allowed (wordBits * k + j)) → ok ≡ true →
-          Stands P b s size held allowed (k + 1) r (left - wordBits) (getD b ((pointerPart * (pageBlocks * P) + pageBlocks * s) + k) 0 / 2 ^ 63)
+      pub stands-next : f + k < pageBlocks * P → (r : ℕ) → r < size → (r + wordBits) % size ≡ off → {ok : Bool} →
+          ok ≡ allBelow wordBits (λ j. wordRule P b (wordBits * f) size held allowed (wordBits * k + j)) → ok ≡ true →
+          Stands P b f size held allowed (k + 1) r (left - wordBits) (getD b (pointerPart * (pageBlocks * P) + f + k) 0 / 2 ^ 63)
       stands-next h r l o e p = record {
         near = l;
         start = again;
         remains = omega (arith, x .remains);
         last = last;
-        done = more (wordRule P b (pageWords * s) size held allowed) k (x .done) e p;
+        done = more (wordRule P b (wordBits * f) size held allowed) k (x .done) e p;
       }
         where
           again : (wordBits * (k + 1) + r) % size ≡ 0
@@ -118,7 +118,7 @@ module _ (P : ℕ) (b : List ℕ) (s size held : ℕ) (allowed : Allowed) where
               let e : wordBits * (k + 1) + r ≡ wordBits * k + (r + wordBits) = omega arith in
               rw (e, ← add-mod-mod (wordBits * k) (r + wordBits) size, o) (x .start)
 
-          last : on (getD b ((pointerPart * (pageBlocks * P) + pageBlocks * s) + k) 0 / 2 ^ 63) 0 ≡ (ltb 0 (wordBits * (k + 1)) && bit P pointer b (pageWords * s + (wordBits * (k + 1) - 1)))
+          last : on (getD b (pointerPart * (pageBlocks * P) + f + k) 0 / 2 ^ 63) 0 ≡ (ltb 0 (wordBits * (k + 1)) && bit P pointer b (wordBits * f + (wordBits * (k + 1) - 1)))
           last =
-              let e : wordBits * (pageBlocks * s + k) + 63 ≡ pageWords * s + (wordBits * (k + 1) - 1) = omega arith in
-              rw (lt-ltb 0 (wordBits * (k + 1)) (omega arith), ← e) (top-on (getD b ((pointerPart * (pageBlocks * P) + pageBlocks * s) + k) 0) ∙ part-on P b (pageBlocks * s + k) h pointer ((pointerPart * (pageBlocks * P) + pageBlocks * s) + k) 63 (omega arith) (omega arith))
+              let e : wordBits * (f + k) + 63 ≡ wordBits * f + (wordBits * (k + 1) - 1) = omega arith in
+              rw (lt-ltb 0 (wordBits * (k + 1)) (omega arith), ← e) (top-on (getD b (pointerPart * (pageBlocks * P) + f + k) 0) ∙ part-on P b (f + k) h pointer (pointerPart * (pageBlocks * P) + f + k) 63 (omega arith) (omega arith))

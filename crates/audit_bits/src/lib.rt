@@ -134,11 +134,10 @@ fn blocks_ok(p: usize, bits: &[u64], span: Span, size: usize, held: usize, allow
         r ≡ allBelow (wordBits * (pageBlocks * span .pages))
         (wordRule p (now (bits .entry)) (firstWord (span .start .0)) size held allowed) ⌝ }
 {
-    let page = span.start.0;
     let count = span.pages;
     let mask = starts(size);
     let rest = WORD_BITS % size;
-    let first = PAGE_BLOCKS * page;
+    let first = span.start.first_block();
     let pointers = POINTER_PART * (PAGE_BLOCKS * p) + first;
     let blocks = PAGE_BLOCKS * count;
     let mut k = 0;
@@ -165,8 +164,7 @@ fn free_page_ok(p: usize, bits: &[u64], g: Page) -> bool
     ensures { λ r. ⌜
         r ≡ allBelow (wordBits * pageBlocks) (λ o. bare p (now (bits .entry)) (pageWords * g .0 + o)) ⌝ }
 {
-    let page = g.0;
-    let first = PAGE_BLOCKS * page;
+    let first = g.first_block();
     let mut k = 0;
     while k < PAGE_BLOCKS {
         let at = first + k;

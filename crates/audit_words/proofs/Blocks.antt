@@ -147,9 +147,9 @@ module _ (p : ℕ) (a t b : List ℕ) (F : Filled p a t b) where
           rw z at (g (elementOf t w) low (omega (arith, r .1)) (kept-swept (elementOf t w) (rw h k) (f .2)) (w - elementOf t w) (omega (arith, r .1, r .2, ap (elementWords t) e)) (rw z y))
 
   -- .. as it was read
-  pub read-swept : {s : ℕ} {r : Span} → Reads t s r → IsSpan t s → r .unswept ≡ false → (x : Bool) →
-      T x ↔ BlocksContents p a t b (pageBlocks * s) (pageBlocks * s + pageBlocks * r .pages) → T x ↔ SpanContents p a t b s
-  read-swept {s} R i u x f =
+  pub read-swept : {s : ℕ} {r : Span} → Reads t s r → IsSpan t s → r .unswept ≡ false → (first : ℕ) → first ≡ pageBlocks * s → (x : Bool) →
+      T x ↔ BlocksContents p a t b first (first + pageBlocks * r .pages) → T x ↔ SpanContents p a t b s
+  read-swept {s} R i u first e x f =
       let both = swept-span s i (leb-false _ _ (sym (R .unswept) ∙ u)) in
-      let told = rw (R .pages) at f in
+      let told = rw (R .pages, e) at f in
       (λ y. both .0 (told .0 y), λ g. told .1 (both .1 g))

@@ -142,7 +142,7 @@ fn span_ok(p: usize, arena: &[u64], table: &[u32], bits: &[u64], swept: bool, sp
     let page = span.start.0;
     let count = span.pages;
     if !span.unswept {
-        let first = PAGE_BLOCKS * page;
+        let first = span.start.first_block();
         let to = first + PAGE_BLOCKS * count;
         return blocks_ok(p, arena, table, bits, swept, first, to);
     }

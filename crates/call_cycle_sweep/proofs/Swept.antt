@@ -24,14 +24,14 @@ use Rattle.call_cycle_sweep.proofs.Bounds.{bounds}
 use Rattle.call_cycle_sweep.proofs.Pointers.{stays}
 
 module _ (p : ℕ) (t b : List ℕ) (s : ℕ) (S : Sweepable p t b s) where
-  -- pointer bits of freed elements went, then words of marks were moved, from word `marks` on
-  pub swept-words : (marks : ℕ) → marks ≡ markedPart * (pageBlocks * p) + pageBlocks * s → (c : List ℕ) {then : List ℕ} {n : ℕ} → n ≡ pageCount t s → c ≡ clearedBits p t b s →
+  -- pointer bits of freed elements went, then words of marks were moved, from word `marks` on to word `first` on
+  pub swept-words : (first marks : ℕ) → first ≡ pageBlocks * s → marks ≡ markedPart * (pageBlocks * p) + first → (c : List ℕ) {then : List ℕ} {n : ℕ} → n ≡ pageCount t s → c ≡ clearedBits p t b s →
       then ≡ writeRun withBit (marks * wordBits) (pageBlocks * n * wordBits) (λ i. false)
-      (writeRun withBit (pageBlocks * s * wordBits) (pageBlocks * n * wordBits) (λ i. bitAt c (i - pageBlocks * s * wordBits + marks * wordBits)) c) →
+      (writeRun withBit (first * wordBits) (pageBlocks * n * wordBits) (λ i. bitAt c (i - first * wordBits + marks * wordBits)) c) →
       (a roots : List ℕ) → then ≡ sweptBits (lent p a t b roots) s
   unfolding sweptBits
-  swept-words marks m c k e f a roots =
-      (rw (k, m) at f) ∙ rw e (sym (swept-parts (pageWords * p) (pageWords * s) (pageWords * pageCount t s) (stays p t b s) b (omega (arith, bounds S)) (omega (arith, S .consistent .bits)) (pageBlocks * s) (markedPart * (pageBlocks * p) + pageBlocks * s) (pageBlocks * pageCount t s) (omega arith) (omega arith) (omega arith)))
+  swept-words first marks h m c k e f a roots =
+      (rw (k, m, h) at f) ∙ rw e (sym (swept-parts (pageWords * p) (pageWords * s) (pageWords * pageCount t s) (stays p t b s) b (omega (arith, bounds S)) (omega (arith, S .consistent .bits)) (pageBlocks * s) (markedPart * (pageBlocks * p) + pageBlocks * s) (pageBlocks * pageCount t s) (omega arith) (omega arith) (omega arith)))
 
   -- the bits of a part that stand at allocated elements alone, counted over the span's words
   module _ (q : Part) (only : (w : ℕ) → T (bit p q b w) → T (bit p allocated b w)) where
@@ -77,21 +77,22 @@ module _ (p : ℕ) (t b : List ℕ) (s : ℕ) (S : Sweepable p t b s) where
     pub freed : (a roots : List ℕ) → all - kept ≡ freedCount (lent p a t b roots) s
     pub left : (a roots : List ℕ) → nothingLeft (lent p a t b roots) s ≡ eqb kept 0
 
-  pub counted : (all kept n marks : ℕ) → n ≡ pageCount t s → marks ≡ markedPart * (pageBlocks * p) + pageBlocks * s → all ≡ countBelow (pageBlocks * n * wordBits) (λ k. bitAt b (pageBlocks * s * wordBits + k)) →
+  pub counted : (all kept n first marks : ℕ) → n ≡ pageCount t s → first ≡ pageBlocks * s → marks ≡ markedPart * (pageBlocks * p) + first →
+      all ≡ countBelow (pageBlocks * n * wordBits) (λ k. bitAt b (first * wordBits + k)) →
       kept ≡ countBelow (pageBlocks * n * wordBits) (λ k. bitAt b (marks * wordBits + k)) → SpanCounts all kept
   unfolding freedCount nothingLeft
-  counted all kept n marks c m e f = record { less = omega (arith, x, y, z); freed = λ a roots. omega (arith, x, y, z); left = λ a roots. none-counted (elements t s) (λ k. bit p marked b (elementStart t s k)) ∙ ap (λ n. eqb n 0) (sym y) }
+  counted all kept n first marks c h m e f = record { less = omega (arith, x, y, z); freed = λ a roots. omega (arith, x, y, z); left = λ a roots. none-counted (elements t s) (λ k. bit p marked b (elementStart t s k)) ∙ ap (λ n. eqb n 0) (sym y) }
     where
       words : pageBlocks * n * wordBits ≡ pageWords * pageCount t s
       words = omega (arith, c)
 
       x : all ≡ countBelow (elements t s) (λ k. bit p allocated b (elementStart t s k))
-      x = let first : pageBlocks * s * wordBits ≡ pageWords * s = omega arith in
-          (rw (words, first) at e) ∙ sym (part-count (pageWords * p) allocated (pageWords * s) (pageWords * pageCount t s) b (omega (arith, bounds S))) ∙ part-counted allocated (λ w a. a)
+      x = let here : first * wordBits ≡ pageWords * s = omega (arith, h) in
+          (rw (words, here) at e) ∙ sym (part-count (pageWords * p) allocated (pageWords * s) (pageWords * pageCount t s) b (omega (arith, bounds S))) ∙ part-counted allocated (λ w a. a)
 
       y : kept ≡ countBelow (elements t s) (λ k. bit p marked b (elementStart t s k))
-      y = let first : marks * wordBits ≡ markedPart * (pageWords * p) + pageWords * s = omega (arith, m) in
-          (rw (words, first) at f) ∙ sym (part-count (pageWords * p) marked (pageWords * s) (pageWords * pageCount t s) b (omega (arith, bounds S))) ∙ part-counted marked (S .consistent .rules .marks)
+      y = let here : marks * wordBits ≡ markedPart * (pageWords * p) + pageWords * s = omega (arith, h, m) in
+          (rw (words, here) at f) ∙ sym (part-count (pageWords * p) marked (pageWords * s) (pageWords * pageCount t s) b (omega (arith, bounds S))) ∙ part-counted marked (S .consistent .rules .marks)
 
       z : countBelow (elements t s) (λ k. bit p allocated b (elementStart t s k)) ≡
           countBelow (elements t s) (λ k. bit p allocated b (elementStart t s k) && not (bit p marked b (elementStart t s k))) + countBelow (elements t s) (λ k. bit p marked b (elementStart t s k))

@@ -43,7 +43,7 @@ fn sweep_span(p: usize, table: &mut [u32], bits: &mut [u64], span: Span) -> Answ
 {
     let page = span.start.0;
     let n = span.pages;
-    let first = PAGE_BLOCKS * page;
+    let first = span.start.first_block();
     let marks = MARKED_PART * (PAGE_BLOCKS * p) + first;
     let words = PAGE_BLOCKS * n;
     let allocated = bitmap_range::count_range(bits, first, words);

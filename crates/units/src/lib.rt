@@ -6,7 +6,7 @@
 ghost use mathlib.Core.Path.{_≡_};
 ghost use Prim.Native.Nat.{_*_, _≤_};
 ghost use lib.Dec.{eqb};
-ghost use Rattle.model.specs.Memory.{maxPages, pageWords, nil, addressOf, wordOf, pageOf, firstWord};
+ghost use Rattle.model.specs.Memory.{maxPages, pageWords, pageBlocks, nil, addressOf, wordOf, pageOf, firstWord};
 
 // The buffers: pages, and the lengths of the arena, the page table, the bitmaps and the roots.
 pub const MAX_PAGES: usize = 256;
@@ -158,5 +158,13 @@ impl Page {
         ensures { λ r. ⌜ r .0 ≡ firstWord (self .0) ⌝ }
     {
         Word(PAGE_WORDS * self.0)
+    }
+
+    // The first of the page's bitmap words in a part.
+    pub fn first_block(self) -> usize
+        requires { ⌜ self .0 ≤ maxPages ⌝ }
+        ensures { λ r. ⌜ r ≡ pageBlocks * self .0 ⌝ }
+    {
+        PAGE_BLOCKS * self.0
     }
 }

@@ -16,24 +16,29 @@ start c = c .before .before .before .before
 fits : (c : tie.After-struct-known) → let a = start c .args in (a .span .class ≤ rows) × (a .span .pages ≤ mostLarge) × (a .span .start .0 + a .span .pages ≤ a .p)
 fits c = let s = start c in read-fits _ _ _ _ (s .pre .0) (s .pre .3) (s .pre .2)
 
-mul-first : tie.Need-mul-first
-mul-first c = omega (arith, fits (c .before), start (c .before) .pre .0 .consistent)
+first-block-requires : tie.Need-first-block-requires
+first-block-requires c κs = omega (arith, fits (c .before), start (c .before) .pre .0 .consistent)
 
 mul-to : tie.Need-mul-to
-mul-to c = omega (arith, fits (c .before))
+mul-to c = omega (arith, fits (c .before .before))
 
 add-to : tie.Need-add-to
-add-to c = omega (arith, fits (c .before), start (c .before) .pre .0 .consistent)
+add-to c =
+    let known = c .before .before in
+    omega (arith, fits known, start known .pre .0 .consistent, c .first-block .ensures)
 
 blocks-ok-requires : tie.Need-blocks-ok-requires
 blocks-ok-requires c κs =
-    let s = start (c .before) in
-    (s .pre .0, s .pre .1, omega arith, omega (arith, fits (c .before)))
+    let known = c .before .before in
+    let s = start known in
+    (s .pre .0, s .pre .1, omega arith, omega (arith, fits known, c .first-block .ensures))
 
 returns : tie.Need-returns
 returns c =
-    let s = start (c .before .before) in
-    read-swept _ _ _ _ (s .pre .0) (s .pre .3) (s .pre .2) (not-true _ (c .before .if1 .taken)) (c .blocks-ok .result) (c .blocks-ok .ensures)
+    let block = c .before in
+    let swept = block .before in
+    let s = start (swept .before) in
+    read-swept _ _ _ _ (s .pre .0) (s .pre .3) (s .pre .2) (not-true _ (swept .if1 .taken)) _ (block .first-block .ensures) (c .blocks-ok .result) (c .blocks-ok .ensures)
 
 element-words-requires : tie.Need-element-words-requires
 element-words-requires c κs = omega (arith, fits (c .before))
@@ -60,5 +65,5 @@ elements-ok-requires c κs =
 pub span-ok-spec : {M : Type 1} → statement M
 span-ok-spec =
     tie.close
-    (tie.spec mul-first mul-to add-to blocks-ok-requires returns element-words-requires (λ c. search needs) (λ c. search needs) add-after
+    (tie.spec first-block-requires mul-to add-to blocks-ok-requires returns element-words-requires (λ c. search needs) (λ c. search needs) add-after
     first-word-requires add-end elements-ok-requires (λ c. search needs))

@@ -12,12 +12,12 @@ use borrow.Author.Needs.{needs}
 use Rattle.call_cycle_sweep.proofs.sweep_span.Statement.{statement}
 use Rattle.call_cycle_sweep.proofs.sweep_span.Tie as tie
 
--- the function's entry, from where the buffers are known; that place, from where the bits are counted; that, from where the freed elements' pointer
--- bits are cleared; and that, from where the marks are moved
-abbrev start : tie.After-slice-known2 → tie.Start
-start c = c .before .before
+-- the function's entry, from where the span's first block is known; that place, from where the bits are counted; that, from where the freed
+-- elements' pointer bits are cleared; and that, from where the marks are moved
+abbrev start : tie.After-first-block → tie.Start
+start c = c .before .before .before
 
-abbrev known : tie.After-count-range2 → tie.After-slice-known2
+abbrev known : tie.After-count-range2 → tie.After-first-block
 known c = c .before .before .before .before
 
 abbrev counting : tie.After-slice-known3 → tie.After-count-range2
@@ -36,22 +36,24 @@ counts : (c : tie.After-count-range2) →
     let s = start (known c) in
     SpanCounts (s .args .p) (now (s .args .table)) (now (s .args .bits)) (s .args .span .start .0) (s .pre .sweepable) (c .before .before .count-range .result) (c .count-range2 .result)
 counts c =
-    let s = start (known c) in
+    let block = known c in
+    let s = start block in
     let a = s .args in
-    counted (a .p) (now (a .table)) (now (a .bits)) (a .span .start .0) (s .pre .sweepable) _ _ _ _ (s .pre .reads .pages) (omega arith) (c .before .before .count-range .ensures) (c .count-range2 .ensures)
+    counted (a .p) (now (a .table)) (now (a .bits)) (a .span .start .0) (s .pre .sweepable) _ _ _ _ _ (s .pre .reads .pages) (block .first-block .ensures) (omega arith) (c .before .before .count-range .ensures) (c .count-range2 .ensures)
 
 -- the bitmaps, once they are swept
 swept : (c : tie.After-slice-known4) (x roots : List ℕ) →
     let a = entry c .args in
     c .before .before .move-range .last .0 ≡ sweptBits (lent (a .p) x (now (a .table)) (now (a .bits)) roots) (a .span .start .0)
 swept c =
-    let s = entry c in
+    let block = known (counting (cleared c)) in
+    let s = start block in
     let a = s .args in
     let freed = cleared c .before .before .clear-freed in
-    swept-words (a .p) (now (a .table)) (now (a .bits)) (a .span .start .0) (s .pre .sweepable) _ (omega arith) (freed .last .1 .0) (s .pre .reads .pages) (freed .ensures (now (a .table)) (s .pre)) (c .before .before .move-range .ensures)
+    swept-words (a .p) (now (a .table)) (now (a .bits)) (a .span .start .0) (s .pre .sweepable) _ _ (block .first-block .ensures) (omega arith) (freed .last .1 .0) (s .pre .reads .pages) (freed .ensures (now (a .table)) (s .pre)) (c .before .before .move-range .ensures)
 
-mul-first : tie.Need-mul-first
-mul-first c = omega (arith, span-bounds (start c))
+first-block-requires : tie.Need-first-block-requires
+first-block-requires c κs = omega (arith, span-bounds (c .before .before))
 
 mul-marks : tie.Need-mul-marks
 mul-marks c = omega (arith, span-bounds (start c))
@@ -60,16 +62,22 @@ mul-marks-2 : tie.Need-mul-marks-2
 mul-marks-2 c = omega (arith, span-bounds (start c))
 
 add-marks : tie.Need-add-marks
-add-marks c = omega (arith, span-bounds (start c))
+add-marks c = omega (arith, span-bounds (start c), c .first-block .ensures)
 
 mul-words : tie.Need-mul-words
 mul-words c = let s = start c in omega (arith, span-bounds s, s .pre .reads .pages)
 
 count-range-requires : tie.Need-count-range-requires
-count-range-requires c κs = let s = start (c .before) in omega (arith, span-bounds s, s .pre .reads .pages)
+count-range-requires c κs =
+    let block = c .before in
+    let s = start block in
+    omega (arith, span-bounds s, s .pre .reads .pages, block .first-block .ensures)
 
 count-range-requires-2 : tie.Need-count-range-requires-2
-count-range-requires-2 c κs = let s = start (c .before .before .before) in omega (arith, span-bounds s, s .pre .reads .pages)
+count-range-requires-2 c κs =
+    let block = c .before .before .before in
+    let s = start block in
+    omega (arith, span-bounds s, s .pre .reads .pages, block .first-block .ensures)
 
 sub-freed : tie.Need-sub-freed
 sub-freed c = counts c .less
@@ -83,8 +91,9 @@ clear-freed-requires c κs = let s = start (known (c .before)) in (now (s .args 
 move-range-requires : tie.Need-move-range-requires
 move-range-requires c κs =
     let freed = c .before in
-    let s = start (known (counting freed)) in
-    omega (arith, span-bounds s, s .pre .reads .pages, freed .before .before .clear-freed .kept .1 .0)
+    let block = known (counting freed) in
+    let s = start block in
+    omega (arith, span-bounds s, s .pre .reads .pages, block .first-block .ensures, freed .before .before .clear-freed .kept .1 .0)
 
 free-span-requires : tie.Need-free-span-requires
 free-span-requires c κs = let s = entry (c .before .before) in omega (arith, span-bounds s, s .pre .reads .pages)
@@ -115,6 +124,6 @@ returns-2 c =
 pub sweep-span-spec : {M : Type 1} → statement M
 sweep-span-spec =
     tie.close
-    (tie.spec mul-first mul-marks mul-marks-2 add-marks mul-words count-range-requires count-range-requires-2 sub-freed add-start
+    (tie.spec first-block-requires mul-marks mul-marks-2 add-marks mul-words count-range-requires count-range-requires-2 sub-freed add-start
     clear-freed-requires move-range-requires free-span-requires (λ c. search needs) (λ c. search needs) returns make-swept-requires
     (λ c. search needs) (λ c. search needs) returns-2)
