@@ -1,16 +1,18 @@
 -- Laws of the bits of a word: one bit moved up, and where the trailing zeros end.
 use Prim.Native.Nat.{ℕ, zero, suc, _*_, _/_, _%_, _^_, _<_}
-use mathlib.Core.Bool.{false}
-use mathlib.Core.Path.{_≡_}
+use mathlib.Core.Bool.{Bool, true, false}
+use mathlib.Core.Logic.{_≢_}
+use mathlib.Core.Path.{_≡_, refl}
 use native.Mathlib.Nat.{one-mul}
 use native.Mathlib.Omega.{arith}
 use lib.Count.{trailingZeros, under}
-use lib.Dec.{eqb, lit<}
+use lib.Dec.{eqb, ltb, lit<}
 use lib.Pow.{shl-exact}
+use borrow.Author.Tests.{eqb-false, ltb-true, ltb-false}
 use mir.Syntax.{w64}
 use mir.Val.{Fits}
 use Rattle.model.specs.Bitmaps.{bitOf}
-use Rattle.model.proofs.Bitmaps.{bit-zero, bit-suc}
+use Rattle.model.proofs.Bitmaps.{bit-zero, bit-suc, bit-none, bit-below, word-ext}
 use Rattle.model.proofs.Bounded.{First}
 
 -- bit k alone, as a word of 64 bits
@@ -31,6 +33,19 @@ trailing-first (suc n) w = go (w % 2) (bit-zero w) (omega arith) (trailing-first
         later (suc k) m = rw bit-suc (f .before k (omega arith))
     go (suc zero) e l f = record { within = omega arith; before = λ k m. absurd (omega arith); holds = λ m. rw e }
     go (suc (suc b)) e l f = absurd (omega arith)
+
+-- .. which is there where the word is not 0
+pub trailing-some : (w : ℕ) → w < 2 ^ 64 → w ≢ 0 → trailingZeros 64 w < 64
+trailing-some w h d = go (ltb (trailingZeros 64 w) 64) refl
+  where
+    go : (b : Bool) → ltb (trailingZeros 64 w) 64 ≡ b → trailingZeros 64 w < 64
+    go true p = ltb-true (trailingZeros 64 w) 64 p
+    go false p = absurd (d (word-ext 64 w 0 h (lit< tt) off))
+      where
+        off : (k : ℕ) → k < 64 → bitOf w k ≡ bitOf 0 k
+        off k l =
+            let e = trailing-first 64 w .before k (omega (arith, ltb-false (trailingZeros 64 w) 64 p)) in
+            rw (bit-none k) (omega (arith, eqb-false (bitOf w k) 1 e, bit-below w k))
 
 -- .. and their number fits any word
 pub trailing-fits : (w : ℕ) → Fits w64 (trailingZeros 64 w)

@@ -8,13 +8,13 @@ use native.Mathlib.Nat.{min-eq-right}
 use native.Mathlib.Omega.{arith}
 use lib.Bits.{bitAnd}
 use lib.Count.{trailingZeros}
-use lib.Dec.{leb}
+use lib.Dec.{leb, ltb}
 use lib.ListN.{getD}
-use borrow.Author.Tests.{leb-true, leb-false, le-leb, lt-leb}
+use borrow.Author.Tests.{leb-true, leb-false, le-leb, lt-leb, ltb-true, ltb-false}
 use Rattle.model.specs.Bitmaps.{bitOf, bitAt}
 use Rattle.model.specs.Bounded.{firstBelow}
 use Rattle.model.proofs.Bounded.{first-is}
-use Rattle.model.proofs.Bitmaps.{bit-shifted, bit-all}
+use Rattle.model.proofs.Bitmaps.{bit-shifted, bit-all, bit-none}
 use Rattle.bitmap.proofs.Scan.{WordOf, None, Passed, word-at, word-and, scan-word, both}
 
 -- the mask has the bits from `from` on in word number `at`, which is the word of `from` or one after it
@@ -49,6 +49,22 @@ scan-from t w {from} {at} {mask} f m n = scan-word (passFrom t from) at _ (word-
 pub scan-set : (ws : List ℕ) {from at mask : ℕ} → Masked from at mask → None (passFrom (bitAt ws) from) (at * 64) →
     Passed (passFrom (bitAt ws) from) at (trailingZeros 64 (bitAnd (getD ws at 0) mask))
 scan-set ws {from} {at} m n = scan-from (bitAt ws) (getD ws at 0) (word-at ws at) m n
+
+-- a word after that of `from` needs no mask, and has no set bit where it is 0
+pub scan-later : (ws : List ℕ) {from at : ℕ} → from ≤ at * 64 → None (passFrom (bitAt ws) from) (at * 64) → Passed (passFrom (bitAt ws) from) at (trailingZeros 64 (getD ws at 0))
+scan-later ws {from} {at} h n =
+    scan-word (passFrom (bitAt ws) from) at _ (λ j l. rw (le-leb from (at * 64 + j) (omega arith), and-true (bitAt ws (at * 64 + j))) (word-at ws at j l)) n
+
+zero-bit : (ws : List ℕ) (i : ℕ) → getD ws (i / 64) 0 ≡ 0 → bitAt ws i ≡ false
+unfolding bitAt
+zero-bit ws i e = rw (e, bit-none (i % 64))
+
+pub none-later : (ws : List ℕ) (from : ℕ) {at next : ℕ} → None (passFrom (bitAt ws) from) (at * 64) → ((k : ℕ) → at ≤ k → k < next → getD ws k 0 ≡ 0) → None (passFrom (bitAt ws) from) (next * 64)
+none-later ws from {at} {next} n z i l = go (ltb i (at * 64)) refl
+  where
+    go : (b : Bool) → ltb i (at * 64) ≡ b → passFrom (bitAt ws) from i ≡ false
+    go true p = n i (ltb-true i (at * 64) p)
+    go false p = rw (zero-bit ws i (z (i / 64) (omega (arith, ltb-false i (at * 64) p)) (omega arith)))
 
 module _ (t : ℕ → Bool) (from to : ℕ) (h : from ≤ to) where
   abbrev firstPassing : ℕ

@@ -9,6 +9,7 @@ ghost use lib.ListN.{length};
 ghost use Rattle.model.specs.Bounded.{firstBelow};
 ghost use Rattle.model.specs.Memory.{wordBits};
 ghost use Rattle.model.specs.Bitmaps.{bitAt, withBit};
+ghost use Rattle.bitmap.specs.Search.{FirstNonzero};
 ghost use Rattle.bitmap.specs.Starts.{ElementRow};
 use units::ALL_BITS;
 use units::WORD_BITS;
@@ -58,24 +59,42 @@ pub fn words_below(end: usize) -> usize
     }
 }
 
-// The lowest set bit at or after `from` and below `to`, or `to`.
+// The first word from word `from` on and below word `end` that has a bit, or `end`.
+fn first_nonzero(ws: &[u64], from: usize, end: usize) -> usize
+    requires { ⌜ (from ≤ end) × (end ≤ length (now ws)) ⌝ }
+    ensures { λ r. ⌜ FirstNonzero (now (ws .entry)) from end r ⌝ }
+{
+    let mut at = from;
+    while at < end {
+        if ws[at] != 0 {
+            return at;
+        }
+        at += 1;
+    }
+    end
+}
+
+// The lowest set bit at or after `from` and below `to`, or `to`. Only the first word is masked, so that
+// a long search is one test a word.
 pub fn first_set(ws: &[u64], from: usize, to: usize) -> usize
     requires { ⌜ (from ≤ to) × (to ≤ wordBits * length (now ws)) ⌝ }
     ensures { λ r. ⌜ r ≡ from + firstBelow (to - from) (λ k. bitAt (now (ws .entry)) (from + k)) ⌝ }
 {
     let end = words_below(to);
-    let mut at = from / WORD_BITS;
-    // the bits of the word from `from` on: all of them, in any word but the first
-    let mut mask = ALL_BITS << (from % WORD_BITS);
-    while at < end {
-        let found = u64::trailing_zeros(ws[at] & mask) as usize;
-        if found < WORD_BITS {
-            return lower(at * WORD_BITS + found, to);
-        }
-        at += 1;
-        mask = ALL_BITS;
+    let first = from / WORD_BITS;
+    if end <= first {
+        return to;
     }
-    to
+    let head = u64::trailing_zeros(ws[first] & (ALL_BITS << (from % WORD_BITS))) as usize;
+    if head < WORD_BITS {
+        return lower(first * WORD_BITS + head, to);
+    }
+    let at = first_nonzero(ws, first + 1, end);
+    if end <= at {
+        return to;
+    }
+    let found = u64::trailing_zeros(ws[at]) as usize;
+    lower(at * WORD_BITS + found, to)
 }
 
 // Where the first element after a word starts, counted from the word's end, if the lowest start in
