@@ -9,7 +9,7 @@ ghost use lib.ListN.{length};
 ghost use Rattle.model.specs.Bounded.{firstBelow};
 ghost use Rattle.model.specs.Memory.{wordBits};
 ghost use Rattle.model.specs.Bitmaps.{bitAt, withBit};
-ghost use Rattle.bitmap.specs.Search.{FirstNonzero};
+ghost use Rattle.bitmap.specs.Search.{Zeros, FirstNonzero};
 ghost use Rattle.bitmap.specs.Starts.{ElementRow};
 use units::ALL_BITS;
 use units::WORD_BITS;
@@ -59,12 +59,29 @@ pub fn words_below(end: usize) -> usize
     }
 }
 
+// A word from word `from` on and below word `end`, or `end`, up to which all words are 0: they are
+// passed over four at a time.
+fn past_zeros(ws: &[u64], from: usize, end: usize) -> usize
+    requires { ⌜ (from ≤ end) × (end ≤ length (now ws)) ⌝ }
+    ensures { λ r. ⌜ (from ≤ r) × (r ≤ end) × Zeros (now (ws .entry)) from r ⌝ }
+{
+    let mut at = from;
+    while 4 <= end - at {
+        let some = ws[at] | ws[at + 1] | ws[at + 2] | ws[at + 3];
+        if some != 0 {
+            return at;
+        }
+        at += 4;
+    }
+    at
+}
+
 // The first word from word `from` on and below word `end` that has a bit, or `end`.
 fn first_nonzero(ws: &[u64], from: usize, end: usize) -> usize
     requires { ⌜ (from ≤ end) × (end ≤ length (now ws)) ⌝ }
     ensures { λ r. ⌜ FirstNonzero (now (ws .entry)) from end r ⌝ }
 {
-    let mut at = from;
+    let mut at = past_zeros(ws, from, end);
     while at < end {
         if ws[at] != 0 {
             return at;
