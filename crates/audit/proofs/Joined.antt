@@ -11,12 +11,11 @@ use Rattle.model.specs.Memory.{Heap, phaseAt, sweep}
 use Rattle.model.specs.Audit.{audit}
 use Rattle.model.proofs.Tests.{is-true, same-test}
 use Rattle.model.specs.Facts.{Spans, Sized, Bits, States, Audited}
-use Rattle.model.specs.Lent.{RootReferences, AllSwept}
+use Rattle.model.specs.Lent.{RootReferences, AllSwept, Told}
 use Rattle.model.proofs.Audit.{audit-facts, facts-audit}
 use Rattle.model.proofs.Lent.{sized-consistent}
 use Rattle.audit_pages.specs.Pass.{GoodPages}
 use Rattle.audit_bits.specs.Words.{GoodBits}
-use Rattle.audit_references.specs.References.{Told}
 use Rattle.audit_words.specs.Contents.{Filled, Contents}
 
 module _ (h : Heap) (Z : Sized h) where

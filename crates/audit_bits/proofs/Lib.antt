@@ -3,3 +3,4 @@ pub mod Masks
 pub mod SpanWords
 pub mod Stretches
 pub mod Turns
+pub mod Words

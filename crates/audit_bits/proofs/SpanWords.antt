@@ -8,7 +8,7 @@ use mathlib.Core.Path.{_≡_, refl, sym, _∙_}
 use native.Mathlib.Omega.{arith}
 use native.Mathlib.Nat.{div-add-mod', div-lt-iff-lt-mul, zero-mod, mod-lt, mod-eq-of-lt, mul-add-mod-self-right}
 use lib.Dec.{T, eqb, ltb}
-use borrow.Author.Tests.{eqb-true, eqb-false, ne-eqb}
+use borrow.Author.Tests.{eqb-true, eqb-false, ne-eqb, eq-eqb}
 use Rattle.model.specs.Memory.{pageWords, firstWord, off, mark, sweep}
 use Rattle.model.specs.Bitmaps.{allocated, marked, gray, pointer}
 use Rattle.model.specs.Spans.{owner, pageCount, isScan, isUnswept, spanOf, elementOf, elementNumber, elementWords, elements}
@@ -17,7 +17,7 @@ use Rattle.model.proofs.Rules.{tests}
 use Rattle.model.specs.Facts.{Spans, IsSpan, InElement, Element, bit, scanAt, unsweptAt}
 use Rattle.model.proofs.Spans.{at-home, fits}
 use Rattle.audit_bits.specs.Rules.{bare, keeps, marksStand, allowedIn, wordRule}
-use Rattle.audit_bits.specs.Words.{WordBits}
+use Rattle.audit_bits.proofs.Words.{WordBits}
 
 -- the rules for word o of the span at page s
 abbrev pub ruleAt : ℕ → ℕ → List ℕ → List ℕ → ℕ → ℕ → Bool
@@ -178,12 +178,6 @@ module _ {P : ℕ} {t : List ℕ} (F : Spans P t) (s : ℕ) (i : IsSpan t s) whe
     pub words-span : phase ≤ sweep → (o : ℕ) → o < pageWords * pageCount t s → WordBits P phase t b (pageWords * s + o) → T (ruleAt P phase t b s o)
     words-span legal o l W = facts-keeps (record { starts = starts; marked = marking; grayed = grayed; lies = lies; head = head; first = first; next = next })
       where
-        n : ℕ
-        n = elementWords t s
-
-        held : ℕ
-        held = elements t s * elementWords t s
-
         scan-of : T (scanAt t (pageWords * s + o)) → T (isScan t s)
         scan-of x = rw (here o l .1) at x
 
@@ -213,7 +207,7 @@ module _ {P : ℕ} {t : List ℕ} (F : Spans P t) (s : ℕ) (i : IsSpan t s) whe
         next q x = and-iff (ltb 0 o) (point (o - 1)) .1 (ltb-iff 0 o .1 some, rw e at (W .unbroken q (λ z. inner (first-mod o l z))))
           where
             inner : o % elementWords t s ≢ 0
-            inner z = absurd (rw (borrow.Author.Tests.eq-eqb (o % elementWords t s) 0 z, of-true (ltb o (elements t s * elementWords t s)) (lies q .0)) at x)
+            inner z = absurd (rw (eq-eqb (o % elementWords t s) 0 z, of-true (ltb o (elements t s * elementWords t s)) (lies q .0)) at x)
 
             some : 0 < o
             some = go o refl

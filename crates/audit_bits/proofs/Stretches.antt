@@ -9,7 +9,7 @@ use lib.Dec.{T, eqb, ltb}
 use borrow.Author.Tests.{ltb-true, ltb-false, eqb-true, eqb-false, ne-eqb}
 use Rattle.model.specs.Memory.{pageWords, wordBits, pageBlocks, mark, sweep}
 use Rattle.model.specs.Bounded.{allBelow, firstBelow}
-use Rattle.model.specs.Bitmaps.{bitAt, allocated, marked, gray, pointer}
+use Rattle.model.specs.Bitmaps.{Part, bitAt, allocated, marked, gray, pointer}
 use Rattle.model.specs.Spans.{owner, pageCount}
 use Rattle.model.proofs.Tests.{is-true, of-true, clash}
 use Rattle.model.proofs.Bitmaps.{bit-in, bit-inside}
@@ -18,15 +18,16 @@ use Rattle.model.specs.Facts.{Spans, IsSpan, bit, Bits, Phases}
 use Rattle.model.proofs.Spans.{at-home, in-span, fits}
 use Rattle.page_table.specs.Span.{Reads}
 use Rattle.page_table.specs.declared.Span.{Span}
-use Rattle.audit_pages.specs.Stretch.{stretch}
-use Rattle.audit_bits.specs.Needs.{Phased, Fits}
+use Rattle.audit_bits.specs.Needs.{Phased, SpanFits}
 use Rattle.audit_bits.specs.Rules.{bare, spanRule, KeepsRules}
-use Rattle.audit_bits.specs.Words.{WordBits, GoodWords, GoodBits, GoodStretch, Used, SetBetween}
+use Rattle.audit_bits.specs.Words.{GoodBits, SetBetween}
+use Rattle.audit_pages.proofs.Stretches.{stretch}
+use Rattle.audit_bits.proofs.Words.{WordBits, GoodWords, GoodStretch, Used}
 use Rattle.audit_bits.proofs.SpanWords.{ruleAt, span-words, words-span, bare-word, word-bare}
 
 -- the span at page s, as its entry describes it: it lies in the arena, its elements in it, and its rules are those of its words
 module _ {t : List ℕ} {s : ℕ} {r : Span} (R : Reads t s r) where
-  pub read-fits : {P : ℕ} → Spans P t → IsSpan t s → Fits P r
+  pub read-fits : {P : ℕ} → Spans P t → IsSpan t s → SpanFits P r
   read-fits F i =
       let f = fits F s i in
       record {
@@ -94,10 +95,10 @@ module _ {P phase : ℕ} {t b : List ℕ} where
     occupied = λ s i. U s (omega (arith, F .inside s i, fits F s i .pages)) i;
   }
     where
-      good : (w : ℕ) (q : Rattle.model.specs.Bitmaps.Part) → T (bit P q b w) → WordBits P phase t b w
+      good : (w : ℕ) (q : Part) → T (bit P q b w) → WordBits P phase t b w
       good w q x = A w (omega arith) (bit-inside (pageWords * P) q b w x)
 
-      off : (q : Rattle.model.specs.Bitmaps.Part) (w : ℕ) → (T (bit P q b w) → ⊥) → bit P q b w ≡ false
+      off : (q : Part) (w : ℕ) → (T (bit P q b w) → ⊥) → bit P q b w ≡ false
       off q w f = go (bit P q b w) refl
         where
           go : (c : Bool) → bit P q b w ≡ c → c ≡ false

@@ -18,7 +18,7 @@ pub record SpanInside (P : ℕ) (r : Span) (size : ℕ) : Type 0 where
   pub inside : r .start .0 + r .pages ≤ P
 
 -- .. its kind has a class, and its elements fit into it
-pub record Fits (P : ℕ) (r : Span) : Type 0 where
+pub record SpanFits (P : ℕ) (r : Span) : Type 0 where
   pub inside : r .start .0 + r .pages ≤ P
   pub short : r .pages ≤ mostLarge
   pub class : r .class ≤ rows

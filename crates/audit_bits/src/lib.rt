@@ -12,7 +12,7 @@ ghost use Rattle.model.specs.Memory.{mark, pageWords, pageBlocks, wordBits, fir
 ghost use Rattle.model.specs.Lent.{Bitmaps, Mapped};
 ghost use Rattle.audit_blocks.specs.Block.{on};
 ghost use Rattle.audit_bits.specs.Words.{GoodBits, SetBetween};
-ghost use Rattle.audit_bits.specs.Needs.{Phased, SpanInside, Fits};
+ghost use Rattle.audit_bits.specs.Needs.{Phased, SpanInside, SpanFits};
 ghost use Rattle.audit_bits.specs.Rules.{bare, blockRule, wordRule, marksStand, spanRule, KeepsRules};
 use audit_blocks::colours_ok;
 use audit_blocks::pointers_ok;
@@ -201,7 +201,7 @@ fn grays_stand(phase: u64, scan: bool) -> bool
 
 // The bits of the span keep the rules.
 fn span_bits_ok(p: usize, bits: &[u64], phase: u64, span: Span) -> bool
-    requires { ⌜ Bitmaps p (now bits) × Fits p span ⌝ }
+    requires { ⌜ Bitmaps p (now bits) × SpanFits p span ⌝ }
     ensures { λ r. ⌜
         r ≡ allBelow (wordBits * (pageBlocks * span .pages)) (spanRule p phase (now (bits .entry)) span) ⌝ }
 {
@@ -220,7 +220,7 @@ fn span_bits_ok(p: usize, bits: &[u64], phase: u64, span: Span) -> bool
 // The span has an allocated element. Allocated bits are the first of the bitmaps, so that they stand at
 // the words' own numbers.
 fn occupied(p: usize, bits: &[u64], span: Span) -> bool
-    requires { ⌜ Bitmaps p (now bits) × Fits p span ⌝ }
+    requires { ⌜ Bitmaps p (now bits) × SpanFits p span ⌝ }
     ensures { λ r. ⌜
         T r ↔ SetBetween (now (bits .entry)) (firstWord (span .start .0))
         (firstWord (span .start .0 + span .pages)) ⌝ }
@@ -233,7 +233,7 @@ fn occupied(p: usize, bits: &[u64], span: Span) -> bool
 
 // The bits of the span keep the rules, and it has an allocated element.
 fn span_ok(p: usize, bits: &[u64], phase: u64, span: Span) -> bool
-    requires { ⌜ Bitmaps p (now bits) × Fits p span ⌝ }
+    requires { ⌜ Bitmaps p (now bits) × SpanFits p span ⌝ }
     ensures { λ r. ⌜ T r ↔ KeepsRules p phase (now (bits .entry)) span ⌝ }
 {
     if !span_bits_ok(p, bits, phase, span) {

@@ -39,7 +39,7 @@ bare-iff t g n = (λ x. (n, eqb-iff (kindEntry t g) 0 .0 x), λ h. eqb-iff (kind
 pub further-iff : (t : List ℕ) (s g : ℕ) → owner t g ≡ s + 1 → (r : Bool) → T r ↔ BareEntry t g → T r ↔ Further t s g
 further-iff t s g o r f = (λ x. record { owned = o; bare = f .0 x }, λ h. f .1 (h .bare))
 
--- .. so are those below g, and g
+-- one further page more
 pub body-more : (t : List ℕ) (s g e : ℕ) → ((k : ℕ) → s < k → k < g → k < e → Further t s k) → Further t s g → (k : ℕ) → s < k → k < g + 1 → k < e → Further t s k
 body-more t s g e f h k a b d = go (eqb k g) refl
   where
@@ -72,10 +72,6 @@ module _ (p ph : ℕ) (t : List ℕ) {s : ℕ} {r : Span} (R : Reads t s r) wher
   span-iff b e i d f =
       (λ x. record { entry = rw (R .flagged, R .pages) at e; inside = rw (R .pages) at i; body = f .0 x; swept = λ q. leb-false unsweptFlag (kindEntry t s) (sym (R .unswept) ∙ d q) }, λ F. f .1 (F .body))
 
-  -- .. by the page that it names as its first
-  pub own-span : (b : Bool) → T b ↔ GoodSpan p ph t (r .start .0) → T b ↔ GoodSpan p ph t s
-  own-span b f = rw (R .start) at f
-
 -- the pass has come to page g: the pages below it are as they should be, and no span goes on there
 pub record Upto (p ph : ℕ) (t : List ℕ) (g : ℕ) : Type 0 where
   pub fit : g ≤ p
@@ -84,8 +80,8 @@ pub record Upto (p ph : ℕ) (t : List ℕ) (g : ℕ) : Type 0 where
   pub whose : (k : ℕ) → k < g → 0 < owner t k → IsSpan t (owner t k - 1) × (owner t k - 1 ≤ k) × (k < owner t k - 1 + pageCount t (owner t k - 1))
 
 module _ (p ph : ℕ) (t : List ℕ) where
-  pub none : Upto p ph t 0
-  none = record { fit = omega arith; first = λ s l. absurd (omega arith); rest = λ k l. absurd (omega arith); whose = λ k l. absurd (omega arith) }
+  pub upto-first : Upto p ph t 0
+  upto-first = record { fit = omega arith; first = λ s l. absurd (omega arith); rest = λ k l. absurd (omega arith); whose = λ k l. absurd (omega arith) }
 
   module _ (g : ℕ) (U : Upto p ph t g) (l : g < p) where
     -- a free page more

@@ -2,17 +2,16 @@
 use Prim.Native.Nat.{ℕ, _+_, _-_, _<_, _≤_}
 use mathlib.Core.Bool.{Bool, true, false, cond}
 use mathlib.Core.List.{List}
-use mathlib.Core.Logic.{_≢_}
+use mathlib.Core.Logic.{_≢_, _↔_}
 use mathlib.Core.Path.{_≡_, refl}
 use native.Mathlib.Omega.{arith}
-use lib.Dec.{eqb, ltb}
+use lib.Dec.{T, eqb, ltb}
 use borrow.Author.Tests.{ltb-true, ltb-false, eqb-true, eqb-false, ne-eqb}
-use Rattle.model.specs.Spans.{owner, pageCount}
+use Rattle.model.specs.Spans.{owner, pageCount, isFree}
 use Rattle.model.specs.Facts.{Spans, IsSpan}
 use Rattle.model.proofs.Spans.{fits}
 use Rattle.page_table.specs.Span.{Reads}
 use Rattle.page_table.specs.declared.Span.{Span}
-use Rattle.audit_pages.specs.Stretch.{stretch}
 
 -- a span that was read, by the page that it names as its first
 pub reads-own : {t : List ℕ} {s : ℕ} {r : Span} → Reads t s r → Reads t (r .start .0) r
@@ -26,6 +25,14 @@ reads-own R = record {
   unswept = rw (R .start) (R .unswept);
   narrow = R .narrow;
 }
+
+-- .. and what a test says of that page it says of the one that was read
+pub own-span : {t : List ℕ} {s : ℕ} {r : Span} → Reads t s r → (Q : ℕ → Type 0) (b : Bool) → T b ↔ Q (r .start .0) → T b ↔ Q s
+own-span R Q b f = rw (R .start) at f
+
+-- the pages of the span at page g; a free page alone
+abbrev pub stretch : List ℕ → ℕ → ℕ
+stretch t g = cond (isFree t g) 1 (pageCount t g)
 
 -- the pages of a stretch: of a free page, of a span that was read
 pub free-pages : (t : List ℕ) (g : ℕ) → owner t g ≡ 0 → 1 ≡ stretch t g

@@ -1,4 +1,4 @@
--- What the audit's pass over the page table says: of the whole table, and of one span's first page.
+-- What the audit's pass over the page table says: of the whole table, of the entry of a page that starts no span, and of one span.
 use Prim.Native.Nat.{ℕ, _+_, _<_, _≤_}
 use mathlib.Core.List.{List}
 use mathlib.Core.Logic.{_≢_}

@@ -136,7 +136,7 @@ fn entry_ok(span: Span) -> bool
     count <= MOST_LARGE
 }
 
-// The span is swept, but in the sweep phase.
+// The span is swept, unless the phase is sweep.
 fn flag_ok(unswept: bool, phase: u64) -> bool
     ensures { λ r. ⌜ (T r ↔ (phase ≢ sweep → unswept ≡ false)) ⌝ }
 {

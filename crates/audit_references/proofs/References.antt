@@ -1,6 +1,6 @@
 -- Kept elements and references: what the tests of one value come to.
 use Prim.Native.Nat.{ℕ, _+_, _*_, _/_, _<_, _≤_}
-use mathlib.Core.Bool.{Bool, true, false, not, cond}
+use mathlib.Core.Bool.{Bool, true, false, not, cond, true≢false}
 use mathlib.Core.List.{List}
 use mathlib.Core.Logic.{_≢_, _↔_, inl, inr}
 use mathlib.Core.Path.{_≡_, refl, sym, _∙_}
@@ -58,7 +58,7 @@ module _ (p : ℕ) (t b : List ℕ) (v : ℕ) where
 
   pub no-address : v ≢ 0 → (m : Bool) → m ≡ eqb v (addressOf (wordOf v)) → not m ≡ true → Reference p t b v → ⊥
   no-address d m e q (inl z) = d z
-  no-address d true e q (inr x) = mathlib.Core.Bool.true≢false (sym q)
+  no-address d true e q (inr x) = true≢false (sym q)
   no-address d false e q (inr x) = eqb-false v (addressOf (wordOf v)) (sym e) (x .0)
 
   pub past-arena : v ≢ 0 → pageWords * p ≤ wordOf v → Reference p t b v → ⊥
@@ -66,7 +66,7 @@ module _ (p : ℕ) (t b : List ℕ) (v : ℕ) where
   past-arena d l (inr x) = omega (arith, kept-inside p t b (wordOf v) (x .1))
 
   pub names-kept : v ≢ 0 → (m : Bool) → m ≡ eqb v (addressOf (wordOf v)) → not m ≡ false → (w : ℕ) → w ≡ wordOf v → (r : Bool) → r ≡ keptAt p t b w → T r ↔ Reference p t b v
-  names-kept d false e q w z r h = absurd (mathlib.Core.Bool.true≢false q)
+  names-kept d false e q w z r h = absurd (true≢false q)
   names-kept d true e q w z r h = (λ x. inr (eqb-true v (addressOf (wordOf v)) (sym e), rw k at x), back)
     where
       k : r ≡ keptAt p t b (wordOf v)

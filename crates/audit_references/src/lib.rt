@@ -2,16 +2,18 @@
 // global; crate audit_words asks it of the words of the arena. Which elements are kept is read in the
 // bitmaps: in an unswept span those that are marked, in any other those that are allocated. Outside
 // the sweep phase no span is unswept, and a reference is tested by one bit, without the page table.
-// The page table has passed the audit.
+// The page table has passed the audit. A crate apart from audit_words for the gate's time too: each
+// wrong program proves its whole crate again.
 ghost use mathlib.Core.Path.{_≡_};
 ghost use mathlib.Core.Logic.{_↔_};
 ghost use Prim.Native.Nat.{_*_, _<_, _≤_};
 ghost use lib.Dec.{T};
 ghost use Rattle.model.specs.Memory.{maxPages, pageWords, rootWords, firstGlobal};
 ghost use Rattle.model.specs.Facts.{Reference, States, keptAt};
-ghost use Rattle.model.specs.Lent.{Mapped, RootReferences};
-ghost use Rattle.audit_references.specs.Contracts.{ReadableRoots, atEntry};
-ghost use Rattle.audit_references.specs.References.{Told, RootRange, keptFrom};
+ghost use Rattle.model.specs.Lent.{Mapped, RootReferences, Told};
+ghost use Rattle.model.specs.Contracts.{atEntry};
+ghost use Rattle.audit_references.specs.Contracts.{ReadableRoots};
+ghost use Rattle.audit_references.specs.References.{RootRange, keptFrom};
 use units::Address;
 use units::CLOSED;
 use units::FIRST_GLOBAL;

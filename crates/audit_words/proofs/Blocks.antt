@@ -9,18 +9,17 @@ use native.Mathlib.Omega.{arith}
 use lib.Count.{trailingZeros}
 use lib.Dec.{T, eqb, ltb}
 use lib.ListN.{getD}
-use lib.Pow.{pow-pos}
 use borrow.Author.Tests.{ltb-true, ltb-false, lt-leb, leb-false, eqb-true, eqb-false}
 use Rattle.model.specs.Memory.{pageWords, wordBits, pageBlocks, unsweptFlag, pointerPart}
 use Rattle.model.specs.Bitmaps.{bitOf, bitAt, withBitOf, allocated, pointer}
 use Rattle.model.specs.Spans.{pageCount, kindEntry, spanOf, elementOf, elementWords}
 use Rattle.model.proofs.Tests.{is-true, clash}
 use Rattle.model.proofs.Bounded.{First}
-use Rattle.model.proofs.Bitmaps.{bit-below, bit-none, bit-in, word-ext, with-bit-of}
+use Rattle.model.proofs.Bitmaps.{bit-none, bit-in, with-bit-of}
 use Rattle.model.specs.Facts.{IsSpan, Reference, bit, keptAt}
 use Rattle.model.proofs.Spans.{at-home, round, whole}
 use Rattle.model.proofs.Named.{kept-allocated}
-use Rattle.bitmap.proofs.Bits.{trailing-first}
+use Rattle.bitmap.proofs.Bits.{trailing-first, trailing-some}
 use Rattle.page_table.specs.Span.{Reads}
 use Rattle.page_table.specs.declared.Span.{Span}
 use Rattle.audit_words.specs.Contents.{Filled, BlockContents, BlocksContents, SpanContents}
@@ -31,10 +30,7 @@ module _ (left : ℕ) (fits : left < 2 ^ 64) (some : left ≢ 0) where
   first = trailing-first 64 left
 
   pub low : trailingZeros 64 left < 64
-  low = lt-of-not-le (λ l. some (word-ext 64 left 0 fits (pow-pos 64) (none l)))
-    where
-      none : 64 ≤ trailingZeros 64 left → (k : ℕ) → k < 64 → bitOf left k ≡ bitOf 0 k
-      none l k m = rw bit-none (omega (arith, bit-below left k, eqb-false (bitOf left k) 1 (first .before k (omega arith))))
+  low = trailing-some left fits some
 
   pub lowest-on : T (eqb (bitOf left (trailingZeros 64 left)) 1)
   lowest-on = is-true _ (first .holds low)

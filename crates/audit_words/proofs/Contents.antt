@@ -24,7 +24,12 @@ use Rattle.page_table.specs.Span.{Reads}
 use Rattle.page_table.specs.declared.Span.{Span}
 use Rattle.audit_references.specs.References.{keptFrom}
 use Rattle.audit_references.proofs.References.{kept-is, from-bound}
-use Rattle.audit_words.specs.Contents.{Filled, ElementAt, Pointers, SpanContents, Contents, Searched, ContentsBelow}
+use Rattle.audit_words.specs.Contents.{Filled, ElementAt, Pointers, SpanContents, Contents, Searched}
+
+-- the kept elements from word `first` on whose bit stands below `at` have references in their pointer words
+abbrev pub ContentsBelow : ℕ → List ℕ → List ℕ → List ℕ → ℕ → ℕ → ℕ → ℕ → ℕ → Type 0
+ContentsBelow p a t b first n from end at =
+    (w : ℕ) → first ≤ w → from + w < at → from + w < end → T (keptAt p t b w) → Pointers p a t b w n
 
 -- the pointer bit of word f of an element
 pub pointer-is : (p : ℕ) (b : List ℕ) (w f at : ℕ) → at ≡ pointerPart * (pageWords * p) + w + f → w + f < pageWords * p → bitAt b at ≡ bit p pointer b (w + f)
@@ -76,20 +81,17 @@ module _ (p : ℕ) (a t b : List ℕ) (F : Filled p a t b) where
 
   -- .. as it was read
   module _ {s : ℕ} {r : Span} (R : Reads t s r) (i : IsSpan t s) where
-    pub read-fits : (r .class ≤ rows) × (r .pages ≤ mostLarge) × (s + r .pages ≤ p)
-    read-fits =
+    pub read-bounds : (r .class ≤ rows) × (r .pages ≤ mostLarge) × (s + r .pages ≤ p)
+    read-bounds =
         let e = F .consistent .spans .entry s i in
         (rw (R .class) (omega (arith, e .kind)), rw (R .pages) (fits (F .consistent .spans) s i .short), rw (R .pages) (F .consistent .spans .inside s i))
 
     pub read-searched : (n from end : ℕ) → n ≡ elementWordsOf (r .class) (r .pages) → from ≡ keptFrom p (r .unswept) → end ≡ from + pageWords * (s + r .pages) → Searched p t s n from end
     read-searched n from end size start stop = searched s n from end i (rw (R .class, R .pages) at size) (rw (R .unswept) at start) (rw (R .pages) at stop)
 
-    -- it has no pointers, or its test says what its contents are
+    -- it has no pointers
     pub plain-span : r .scan ≡ false → T (isScan t s) → SpanContents p a t b s
     plain-span e x = clash (isScan t s) (of-true _ x) (sym (R .scan) ∙ e)
-
-    pub own-span : (x : Bool) → T x ↔ SpanContents p a t b (r .start .0) → T x ↔ SpanContents p a t b s
-    own-span x f = rw (R .start) at f
 
   module _ (s n from end : ℕ) (S : Searched p t s n from end) (first : ℕ) (e : first ≡ pageWords * s) where
     kept-bit : (w : ℕ) → first ≤ w → from + w < end → bitAt b (from + w) ≡ keptAt p t b w

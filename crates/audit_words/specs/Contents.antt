@@ -52,8 +52,3 @@ pub record Searched (p : ℕ) (t : List ℕ) (s n from end : ℕ) : Type 0 where
   pub stop : end ≡ from + firstWord (s + pageCount t s)
   pub low : from ≤ pageWords * p
   pub inside : s + pageCount t s ≤ p
-
--- those from word `first` on whose bit stands below `at` have references in their pointer words
-abbrev pub ContentsBelow : ℕ → List ℕ → List ℕ → List ℕ → ℕ → ℕ → ℕ → ℕ → ℕ → Type 0
-ContentsBelow p a t b first n from end at =
-    (w : ℕ) → first ≤ w → from + w < at → from + w < end → T (keptAt p t b w) → Pointers p a t b w n

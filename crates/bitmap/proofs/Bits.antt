@@ -47,6 +47,6 @@ trailing-some w h d = go (ltb (trailingZeros 64 w) 64) refl
             let e = trailing-first 64 w .before k (omega (arith, ltb-false (trailingZeros 64 w) 64 p)) in
             rw (bit-none k) (omega (arith, eqb-false (bitOf w k) 1 e, bit-below w k))
 
--- .. and their number fits any word
+-- the number of trailing zeros fits any word
 pub trailing-fits : (w : ℕ) → Fits w64 (trailingZeros 64 w)
 trailing-fits w = omega (arith, trailing-first 64 w .within)

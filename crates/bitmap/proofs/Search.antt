@@ -1,4 +1,4 @@
--- The search for the lowest bit that passes a test, from a bit on: the masks of its words, and what it answers. `first_set` asks for a set bit; the
+-- The search for the lowest bit that passes a test, from a bit on: the masks of its words, and what it answers. `first_set` asks for a set bit and masks its first word alone; the
 -- searches of crate bitmap_search have tests of their own.
 use Prim.Native.Nat.{ℕ, _+_, _-_, _*_, _/_, _%_, _^_, _<_, _≤_, min}
 use mathlib.Core.Bool.{Bool, true, false, cond, _&&_, and-true, and-false}
@@ -15,6 +15,7 @@ use Rattle.model.specs.Bitmaps.{bitOf, bitAt}
 use Rattle.model.specs.Bounded.{firstBelow}
 use Rattle.model.proofs.Bounded.{first-is}
 use Rattle.model.proofs.Bitmaps.{bit-shifted, bit-all, bit-none}
+use Rattle.bitmap.specs.Search.{Zeros}
 use Rattle.bitmap.proofs.Scan.{WordOf, None, Passed, word-at, word-and, scan-word, both}
 
 -- the mask has the bits from `from` on in word number `at`, which is the word of `from` or one after it
@@ -59,7 +60,7 @@ zero-bit : (ws : List ℕ) (i : ℕ) → getD ws (i / 64) 0 ≡ 0 → bitAt ws i
 unfolding bitAt
 zero-bit ws i e = rw (e, bit-none (i % 64))
 
-pub none-later : (ws : List ℕ) (from : ℕ) {at next : ℕ} → None (passFrom (bitAt ws) from) (at * 64) → ((k : ℕ) → at ≤ k → k < next → getD ws k 0 ≡ 0) → None (passFrom (bitAt ws) from) (next * 64)
+pub none-later : (ws : List ℕ) (from : ℕ) {at next : ℕ} → None (passFrom (bitAt ws) from) (at * 64) → Zeros ws at next → None (passFrom (bitAt ws) from) (next * 64)
 none-later ws from {at} {next} n z i l = go (ltb i (at * 64)) refl
   where
     go : (b : Bool) → ltb i (at * 64) ≡ b → passFrom (bitAt ws) from i ≡ false

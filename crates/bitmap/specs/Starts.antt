@@ -1,16 +1,14 @@
 -- What the search for a free element asks of its arguments.
 use Prim.Native.Nat.{ℕ, _+_, _*_, _%_, _^_, _<_, _≤_}
-use mathlib.Core.Bool.{cond}
 use mathlib.Core.List.{List}
 use mathlib.Core.Path.{_≡_}
-use lib.Dec.{eqb}
 use lib.ListN.{length}
 use Rattle.model.specs.Memory.{wordBits}
-use Rattle.model.specs.Bitmaps.{bitOf}
+use Rattle.model.specs.Lent.{StartsMask}
 
--- a mask of the bits at which elements of this size start, in a word whose lowest bit starts one
+-- a mask of the elements' starts
 pub record Starts (size mask : ℕ) : Type 0 where
-  pub bit : (j : ℕ) → j < wordBits → bitOf mask j ≡ cond (eqb (j % size) 0) 1 0
+  pub bit : StartsMask size mask
 
 -- `count` elements from bit `first` on, the lowest of its word, lie within the words
 pub record ElementRow (ws : List ℕ) (first size count mask : ℕ) : Type 0 where

@@ -1,7 +1,7 @@
 // One lent list of 64-bit words, read and written by bit number, lowest bit first: a bit is
-// tested, set and cleared, and two searches go through the list a word at a time. A search masks
-// a word to the bits that it asks for, and the word's trailing zeros are then the number of the
-// lowest that is set. Callers add the offset of the part of the bitmaps that they mean.
+// tested, set and cleared, and two searches go through the list by whole words. A word is masked to
+// the bits that are asked for where it may have others, and its trailing zeros are then the number of
+// the lowest that is set. Callers add the offset of the part of the bitmaps that they mean.
 ghost use mathlib.Core.Path.{_≡_};
 ghost use mathlib.Core.Bool.{true, false, not};
 ghost use Prim.Native.Nat.{_+_, _-_, _*_, _/_, _%_, _<_, _≤_, min};
@@ -59,8 +59,8 @@ pub fn words_below(end: usize) -> usize
     }
 }
 
-// A word from word `from` on and below word `end`, or `end`, up to which all words are 0: they are
-// passed over four at a time.
+// A word from word `from` on, at most `end`, before which all words from `from` on are 0. They are
+// passed over four at a time, so that the word itself may be 0 too.
 fn past_zeros(ws: &[u64], from: usize, end: usize) -> usize
     requires { ⌜ (from ≤ end) × (end ≤ length (now ws)) ⌝ }
     ensures { λ r. ⌜ (from ≤ r) × (r ≤ end) × Zeros (now (ws .entry)) from r ⌝ }
@@ -91,8 +91,8 @@ fn first_nonzero(ws: &[u64], from: usize, end: usize) -> usize
     end
 }
 
-// The lowest set bit at or after `from` and below `to`, or `to`. Only the first word is masked, so that
-// a long search is one test a word.
+// The lowest set bit at or after `from` and below `to`, or `to`. Only the first word is masked; of
+// those after it the ones that are 0 are passed over.
 pub fn first_set(ws: &[u64], from: usize, to: usize) -> usize
     requires { ⌜ (from ≤ to) × (to ≤ wordBits * length (now ws)) ⌝ }
     ensures { λ r. ⌜ r ≡ from + firstBelow (to - from) (λ k. bitAt (now (ws .entry)) (from + k)) ⌝ }
@@ -114,8 +114,9 @@ pub fn first_set(ws: &[u64], from: usize, to: usize) -> usize
     lower(at * WORD_BITS + found, to)
 }
 
-// Where the first element after a word starts, counted from the word's end, if the lowest start in
-// the word is its bit `off`. `rest` is what 64 bits leave over whole elements.
+// Where the first element after a word starts, counted from the word's end, if the first one from the
+// word's lowest bit on starts `off` bits after that bit, in the word or behind it. `rest` is what 64
+// bits leave over whole elements.
 pub fn next_start(size: usize, rest: usize, off: usize) -> usize
     requires { ⌜ (off < size) × (rest ≡ wordBits % size) ⌝ }
     ensures { λ r. ⌜ (r < size) × ((r + wordBits) % size ≡ off) ⌝ }

@@ -8,6 +8,7 @@ ghost use lib.ListN.{length, getD};
 ghost use Rattle.model.specs.Bounded.{writeRun, countBelow};
 ghost use Rattle.model.specs.Memory.{wordBits, putWords};
 ghost use Rattle.model.specs.Bitmaps.{bitAt, withBit, withBitOf};
+ghost use Rattle.bitmap_range.specs.Moved.{movedWords};
 use units::ALL_BITS;
 use units::WORD_BITS;
 
@@ -134,10 +135,7 @@ pub fn count_range(ws: &[u64], first: usize, n: usize) -> usize
 // become those at `from`, and those at `from` go off. So the sweep makes marked words allocated.
 pub fn move_range(ws: &mut [u64], to: usize, from: usize, n: usize)
     requires { ⌜ (to + n ≤ from) × (from + n ≤ length (now ws)) ⌝ }
-    ensures { λ r. ⌜
-        now (ws .exit) ≡ writeRun withBit (from * wordBits) (n * wordBits) (λ i. false)
-        (writeRun withBit (to * wordBits) (n * wordBits)
-        (λ i. bitAt (now (ws .entry)) (i - to * wordBits + from * wordBits)) (now (ws .entry))) ⌝ }
+    ensures { λ r. ⌜ now (ws .exit) ≡ movedWords to from n (now (ws .entry)) ⌝ }
 {
     copy_words(ws, to, from, n);
     fill_words(ws, from, n, 0);

@@ -1,12 +1,10 @@
 // Allocating a record: the call, and the element that it takes. Where the record goes is found by
 // crate record_room; here each buffer is changed by a function of its own.
 ghost use mathlib.Core.Bool.{true};
-ghost use mathlib.Core.List.{List};
 ghost use mathlib.Core.Path.{_≡_};
-ghost use Prim.Native.Nat.{ℕ};
-ghost use Rattle.model.specs.Memory.{lent, pageOf};
+ghost use Rattle.model.specs.Memory.{pageOf};
 ghost use Rattle.model.specs.Allocate.{newBits, allocate};
-ghost use Rattle.model.specs.Contracts.{AuditedHeap, Does};
+ghost use Rattle.model.specs.Contracts.{AuditedHeap, Does, ByBitsAndRoots};
 ghost use Rattle.page_entries.specs.Needs.{NewEntries};
 ghost use Rattle.call_allocate.specs.Needs.{extended, MarksNew, CanTake, TakesElement};
 use classes::Shape;
@@ -30,9 +28,7 @@ fn extend(table: &mut [u32], fresh: bool, w: Word, shape: Shape)
 // depend on the arena and the page table.
 fn mark_new(p: usize, bits: &mut [u64], roots: &[u64], w: Word, pointers: usize)
     requires { ⌜ MarksNew p (w .0) pointers (now bits) (now roots) ⌝ }
-    ensures { λ r. ⌜
-        ((a t : List ℕ) →
-        now (bits .exit) ≡ newBits (lent p a t (now (bits .entry)) (now (roots .entry))) (w .0) pointers) ⌝ }
+    ensures { λ r. ⌜ ByBitsAndRoots (λ h. now (bits .exit) ≡ newBits h (w .0) pointers) p bits roots ⌝ }
 {
     let at = w.0;
     let words = units::PAGE_WORDS * p;

@@ -2,17 +2,17 @@
 // what it is lent the buffers for. The lowest gray record and the end of a record's pointer words are
 // found a bitmap word at a time.
 ghost use mathlib.Core.Path.{_≡_};
-ghost use mathlib.Core.List.{List};
-ghost use Prim.Native.Nat.{ℕ, _+_};
+ghost use Prim.Native.Nat.{_+_};
 ghost use lib.Dec.{eqb};
 ghost use lib.ListN.{getD};
 ghost use Rattle.model.specs.Bounded.{someBelow};
-ghost use Rattle.model.specs.Memory.{lent, firstState, stackCount, grayState};
+ghost use Rattle.model.specs.Memory.{firstState, stackCount, grayState};
 ghost use Rattle.model.specs.Spans.{pointerCount};
 ghost use Rattle.model.specs.Cycle.{firstGray, markStep, finishRefusal, finish};
 ghost use Rattle.model.specs.Facts.{Element};
 ghost use Rattle.model.specs.Lent.{Roots, Bitmaps, Mapped};
 ghost use Rattle.model.specs.Contracts.{AuditedHeap, AuditedTables, Does, DoesWithoutArena, GivesByRoots};
+ghost use Rattle.model.specs.Contracts.{ByTables, ByBits, ByBitsAndRoots};
 ghost use Rattle.call_cycle_marks.specs.Needs.{LentGray, ScansRecord, rootsRefusal};
 use model::Answer;
 use units::GRAY_PART;
@@ -23,7 +23,7 @@ use units::Word;
 // The first word of the lowest gray record, or the word after the arena's last.
 fn first_gray(p: usize, bits: &[u64]) -> Word
     requires { ⌜ Bitmaps p (now bits) ⌝ }
-    ensures { λ r. ⌜ ((a t roots : List ℕ) → r .0 ≡ firstGray (lent p a t (now (bits .entry)) roots)) ⌝ }
+    ensures { λ r. ⌜ ByBits (λ h. r .0 ≡ firstGray h) p bits ⌝ }
 {
     let words = PAGE_WORDS * p;
     let grays = GRAY_PART * words;
@@ -35,9 +35,7 @@ fn first_gray(p: usize, bits: &[u64]) -> Word
 // up to its element's end at most.
 fn pointer_count(p: usize, table: &[u32], bits: &[u64], w: Word) -> usize
     requires { ⌜ Mapped p (now table) (now bits) × Element (now table) (w .0) ⌝ }
-    ensures { λ r. ⌜
-        ((a roots : List ℕ) →
-        r ≡ pointerCount (lent p a (now (table .entry)) (now (bits .entry)) roots) (w .0)) ⌝ }
+    ensures { λ r. ⌜ ByTables (λ h. r ≡ pointerCount h (w .0)) p table bits ⌝ }
 {
     let at = w.0;
     let span = page_table::span_with_word(table, w);
@@ -108,8 +106,7 @@ fn roots_refusal(roots: &[u64]) -> u64
 // The refusal of a finish: the phase, or something is gray.
 fn finish_refusal(p: usize, bits: &[u64], roots: &[u64]) -> u64
     requires { ⌜ Bitmaps p (now bits) × Roots (now roots) ⌝ }
-    ensures { λ r. ⌜
-        ((a t : List ℕ) → r ≡ finishRefusal (lent p a t (now (bits .entry)) (now (roots .entry)))) ⌝ }
+    ensures { λ r. ⌜ ByBitsAndRoots (λ h. r ≡ finishRefusal h) p bits roots ⌝ }
 {
     let phase = root_checks::not_in(roots, units::MARK);
     let gray = roots_refusal(roots);

@@ -14,7 +14,7 @@ use Rattle.model.proofs.Bounded.{all-at}
 use Rattle.model.proofs.Classes.{small-words}
 
 -- what holds of the row of class c
-pub record Row (c : ℕ) : Type 0 where
+pub record RowFacts (c : ℕ) : Type 0 where
   pub some : 0 < elementBytes c
   pub small : elementBytes c ≤ maxSmall
   pub words : elementBytes c % wordBytes ≡ 0
@@ -29,7 +29,7 @@ row-tests : allBelow rows (λ k. rowTest (k + 1)) ≡ true
 unfolding rowTest classPages elementBytes spanBytes classRows allBelow
 row-tests = refl
 
-pub row-facts : (c : ℕ) → 0 < c → c ≤ rows → Row c
+pub row-facts : (c : ℕ) → 0 < c → c ≤ rows → RowFacts c
 unfolding rowTest
 row-facts c h l =
     let e : (c - 1) + 1 ≡ c = omega arith in

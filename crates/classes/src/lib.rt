@@ -2,10 +2,9 @@
 // holds, as the model's specs/Classes.antt defines them. Crate class_table has the classes' rows.
 ghost use mathlib.Core.Bool.{cond};
 ghost use mathlib.Core.Path.{_≡_};
-ghost use Prim.Native.Nat.{ℕ, _+_, _*_, _%_, _^_, _≤_, _<_};
+ghost use Prim.Native.Nat.{_+_, _*_, _^_, _≤_, _<_};
 ghost use lib.Dec.{eqb};
-ghost use Rattle.model.specs.Bitmaps.{bitOf};
-ghost use Rattle.model.specs.Memory.{wordBits};
+ghost use Rattle.model.specs.Lent.{StartsMask};
 ghost use Rattle.model.specs.Classes.{rows, classPages, elementWordsOf, elementsOf};
 ghost use Rattle.classes.specs.Shape.{Shaped};
 use class_table::class_of;
@@ -178,7 +177,7 @@ pub fn layout_of(c: usize, n: usize) -> Layout
 // The starts of elements of so many words in the 64 words from an element's first on: bit j is on
 // where the size divides j.
 pub fn starts(size: usize) -> u64
-    ensures { λ r. ⌜ ((j : ℕ) → j < wordBits → bitOf r j ≡ cond (eqb (j % size) 0) 1 0) ⌝ }
+    ensures { λ r. ⌜ StartsMask size r ⌝ }
 {
     if size < WORD_BITS {
         return STARTS[size];

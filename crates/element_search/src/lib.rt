@@ -2,10 +2,9 @@
 // page table and the bitmaps.
 ghost use mathlib.Core.Bool.{false};
 ghost use mathlib.Core.Path.{_≡_};
-ghost use mathlib.Core.List.{List};
-ghost use Prim.Native.Nat.{ℕ, _<_};
-ghost use Rattle.model.specs.Memory.{lent};
+ghost use Prim.Native.Nat.{_<_};
 ghost use Rattle.model.specs.Lent.{Mapped};
+ghost use Rattle.model.specs.Contracts.{ByTables};
 ghost use Rattle.element_search.specs.Free.{FreeIn, FreeOf};
 use units::Page;
 use units::Word;
@@ -30,8 +29,7 @@ fn nothing() -> Free
 // the arena and the roots.
 fn free_in(p: usize, table: &[u32], bits: &[u64], kind: usize, s: Page) -> Free
     requires { ⌜ Mapped p (now table) (now bits) × (s .0 < p) ⌝ }
-    ensures { λ r. ⌜
-        ((a o : List ℕ) → FreeIn (lent p a (now (table .entry)) (now (bits .entry)) o) kind (s .0) r) ⌝ }
+    ensures { λ r. ⌜ ByTables (λ h. FreeIn h kind (s .0) r) p table bits ⌝ }
 {
     if !page_table::starts_span(table, s) {
         return nothing();
@@ -60,7 +58,7 @@ fn free_in(p: usize, table: &[u32], bits: &[u64], kind: usize, s: Page) -> Free
 // the arena and the roots.
 pub fn free_of(p: usize, table: &[u32], bits: &[u64], kind: usize) -> Free
     requires { ⌜ Mapped p (now table) (now bits) ⌝ }
-    ensures { λ r. ⌜ ((a o : List ℕ) → FreeOf (lent p a (now (table .entry)) (now (bits .entry)) o) kind r) ⌝ }
+    ensures { λ r. ⌜ ByTables (λ h. FreeOf h kind r) p table bits ⌝ }
 {
     let mut s = 0;
     while s < p {

@@ -67,6 +67,22 @@ GivesByRoots f roots n = (p : ℕ) (a t b : List ℕ) → n ≡ f (lent p a t b 
 abbrev pub LeavesRoots : (Heap → Heap) → Buffer → Type 0
 LeavesRoots change roots = (p : ℕ) (a t b : List ℕ) → now (roots .exit) ≡ change (lent p a t b (now (roots .entry))) .roots
 
+-- what is said of the heap that a function finds, by the page table and the bitmaps alone ..
+abbrev pub ByTables : (Heap → Type 0) → ℕ → Buffer → Buffer → Type 0
+ByTables said p table bits = (a o : List ℕ) → said (lent p a (now (table .entry)) (now (bits .entry)) o)
+
+-- .. by the bitmaps alone ..
+abbrev pub ByBits : (Heap → Type 0) → ℕ → Buffer → Type 0
+ByBits said p bits = (a t o : List ℕ) → said (lent p a t (now (bits .entry)) o)
+
+-- .. and by the bitmaps and the roots
+abbrev pub ByBitsAndRoots : (Heap → Type 0) → ℕ → Buffer → Buffer → Type 0
+ByBitsAndRoots said p bits roots = (a t : List ℕ) → said (lent p a t (now (bits .entry)) (now (roots .entry)))
+
+-- what is said of three buffers as a function finds them
+abbrev pub atEntry : {A : Type 1} → (List ℕ → List ℕ → List ℕ → A) → Buffer → Buffer → Buffer → A
+atEntry said x y z = said (now (x .entry)) (now (y .entry)) (now (z .entry))
+
 -- what a public call promises, for every input: the entry check, and then the call
 abbrev pub Makes : Call → ℕ → Buffer → Buffer → Buffer → Buffer → Answer → Type 0
 Makes c p arena table bits roots r = Does (λ h. run h c) p arena table bits roots r

@@ -99,6 +99,3 @@ module _ (p : ℕ) (t : List ℕ) (n : ℕ) (l : bestRun p t n < p) where
 
   pub best-fits : bestRun p t n + n ≤ p
   best-fits = omega (arith, best-long, run-within p t (bestRun p t n))
-
-  pub best-free : (g : ℕ) → bestRun p t n ≤ g → g < bestRun p t n + n → isFree t g ≡ true
-  best-free g h m = run-free p t (bestRun p t n) g h (omega (arith, best-long))

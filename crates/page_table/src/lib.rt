@@ -13,7 +13,7 @@ use units::Page;
 use units::UNSWEPT_FLAG;
 use units::Word;
 
-// Where its page count and its kind stand in an entry.
+// Where the page count and the kind stand in an entry.
 pub const COUNT: usize = 1;
 
 pub const KIND: usize = 2;

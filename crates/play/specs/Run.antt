@@ -3,8 +3,10 @@ use Prim.Native.Nat.{ℕ, _*_, _≤_}
 use mathlib.Core.List.{List}
 use mathlib.Core.Path.{_≡_}
 use lib.ListN.{length}
+use denote.Ref.{now}
 use Rattle.model.specs.Memory.{pageWords, bitmapWords}
 use Rattle.model.specs.Lent.{Roots, PageTable}
+use Rattle.model.specs.Contracts.{Borrowed}
 use Rattle.trace_read.specs.Lines.{longestLine}
 use Rattle.trace_line.specs.Play.{mostPages}
 use Rattle.play.specs.declared.Progress.{Progress}
@@ -20,6 +22,10 @@ pub record ProgramMemory (a t b s o : List ℕ) : Type 0 where
   pub bits : length b ≡ bitmapWords * mostPages
   pub roots : Roots s
   pub out : length o ≡ blockBytes
+
+-- .. as it is lent
+abbrev pub LentMemory : Borrowed → Borrowed → Borrowed → Borrowed → Borrowed → Type 0
+LentMemory arena table bits roots out = ProgramMemory (now arena) (now table) (now bits) (now roots) (now out)
 
 -- how far the run is lies within that memory, and within the line under way
 pub record InRange (r : Progress) : Type 0 where

@@ -7,7 +7,7 @@ ghost use Rattle.trace_read.specs.Lines.{longestLine};
 ghost use Rattle.trace_split.specs.Split.{Short};
 ghost use Rattle.trace_write.specs.Text.{longestAnswer};
 ghost use Rattle.trace_line.specs.Play.{mostPages};
-ghost use Rattle.play.specs.Run.{blockBytes, ProgramMemory, InRange};
+ghost use Rattle.play.specs.Run.{blockBytes, LentMemory, InRange};
 use trace_split::Taken;
 
 const STDIN: i32 = 0;
@@ -43,7 +43,7 @@ fn play_first(
     line: &[u8],
     at: usize,
 ) -> Progress
-    requires { ⌜ ProgramMemory (now arena) (now table) (now bits) (now roots) (now out) ⌝ }
+    requires { ⌜ LentMemory arena table bits roots out ⌝ }
     requires { ⌜ at + longestAnswer ≤ blockBytes ⌝ }
     ensures { λ r. ⌜ InRange r ⌝ }
 {
@@ -82,7 +82,7 @@ fn play_later(
     number: u64,
     at: usize,
 ) -> Progress
-    requires { ⌜ ProgramMemory (now arena) (now table) (now bits) (now roots) (now out) ⌝ }
+    requires { ⌜ LentMemory arena table bits roots out ⌝ }
     requires { ⌜ (p ≤ mostPages) × (at + longestAnswer ≤ blockBytes) ⌝ }
     ensures { λ r. ⌜ InRange r ⌝ }
 {
@@ -132,7 +132,7 @@ fn play_line(
     line: &[u8],
     run: Progress,
 ) -> Progress
-    requires { ⌜ ProgramMemory (now arena) (now table) (now bits) (now roots) (now out) ⌝ }
+    requires { ⌜ LentMemory arena table bits roots out ⌝ }
     requires { ⌜ InRange run ⌝ }
     ensures { λ r. ⌜ InRange r ⌝ }
 {
@@ -195,7 +195,7 @@ fn feed(
     block: &[u8],
     from: Progress,
 ) -> Progress
-    requires { ⌜ ProgramMemory (now arena) (now table) (now bits) (now roots) (now out) ⌝ }
+    requires { ⌜ LentMemory arena table bits roots out ⌝ }
     requires { ⌜ InRange from × (length (now line) ≡ longestLine) ⌝ }
     ensures { λ r. ⌜ InRange r ⌝ }
 {

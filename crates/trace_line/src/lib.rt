@@ -27,10 +27,10 @@ pub fn pages(line: &[u8]) -> u64
     let Line::Setup(p) = trace_read::read(line) else {
         return 0;
     };
-    if MOST_PAGES < p {
-        return 0;
+    if p <= MOST_PAGES {
+        return p;
     }
-    p
+    0
 }
 
 fn is_accepted(answer: Answer) -> bool

@@ -4,7 +4,9 @@ use mathlib.Core.List.{List}
 use mathlib.Core.Path.{_≡_}
 use lib.ListN.{length, getD}
 use Rattle.model.specs.Bounded.{_==_, _<?_, if_then_else_, firstBelow}
+use denote.Ref.{now}
 use Rattle.model.specs.Memory.{putWords}
+use Rattle.model.specs.Contracts.{Buffer}
 use Rattle.trace_read.specs.Lines.{longestLine}
 use Rattle.trace_split.specs.declared.Taken.{Taken}
 use Rattle.trace_split.specs.declared.Taken.the-variants.{Line, Part, TooLong}
@@ -38,3 +40,8 @@ abbrev pub Short : Taken → Type 0
 Short (Line n next) = n ≤ longestLine
 Short (Part n) = n ≤ longestLine
 Short TooLong = Unit {0}
+
+-- what a block gives, and the line under way with its bytes, of the buffers that a function is lent
+abbrev pub TakesBytes : Buffer → ℕ → Buffer → ℕ → Taken → Type 0
+TakesBytes line used block from r =
+    (r ≡ taken used (now (block .entry)) from) × (now (line .exit) ≡ joined (now (line .entry)) used (now (block .entry)) from)

@@ -1,8 +1,7 @@
 // Input comes in blocks and is played in lines. The line under way stands in a lent buffer of 80
 // bytes; a block is taken up to its next line feed, up to its end, or up to the byte for which the
 // line has no room.
-ghost use mathlib.Core.Path.{_≡_};
-ghost use Rattle.trace_split.specs.Split.{UnderWay, taken, joined};
+ghost use Rattle.trace_split.specs.Split.{UnderWay, TakesBytes};
 use trace_read::LONGEST;
 
 const LINE_FEED: u8 = 10;
@@ -18,9 +17,7 @@ pub enum Taken {
 // The bytes of the block from `from` on join the `used` bytes of the line under way.
 pub fn take(line: &mut [u8], used: usize, block: &[u8], from: usize) -> Taken
     requires { ⌜ UnderWay (now line) used (now block) from ⌝ }
-    ensures { λ r. ⌜
-        (r ≡ taken used (now (block .entry)) from) ×
-        (now (line .exit) ≡ joined (now (line .entry)) used (now (block .entry)) from) ⌝ }
+    ensures { λ r. ⌜ TakesBytes line used block from r ⌝ }
 {
     let mut at = used;
     let mut i = from;

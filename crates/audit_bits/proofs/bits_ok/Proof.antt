@@ -8,9 +8,8 @@ use Rattle.model.specs.Memory.{pageWords}
 use Rattle.model.specs.Spans.{owner}
 use Rattle.model.specs.Facts.{IsSpan}
 use Rattle.model.proofs.Answers.{yes, no}
-use Rattle.audit_pages.specs.Stretch.{stretch}
-use Rattle.audit_pages.proofs.Stretches.{Edge, NextStretch, edge-first, begins, next, spans-more, free-pages, span-pages}
-use Rattle.audit_bits.specs.Words.{GoodWords, GoodStretch, Used}
+use Rattle.audit_pages.proofs.Stretches.{stretch, Edge, NextStretch, edge-first, begins, next, spans-more, free-pages, span-pages}
+use Rattle.audit_bits.proofs.Words.{GoodWords, GoodStretch, Used}
 use Rattle.audit_bits.proofs.Stretches.{read-fits, free-words, free-stretch, kept-stretch, stretch-kept, good-more, words-facts, facts-words}
 use Rattle.audit_bits.proofs.bits_ok.Statement.{statement}
 use Rattle.audit_bits.proofs.bits_ok.Tie as tie
@@ -43,8 +42,8 @@ onward c n e G =
     rw e (N .inside, N .edge, good-more (l .loop .g) _ (l .loop .inv .2) (G .words), spans-more (start l .pre .0 .spans) _ (l .loop .g) (l .loop .inv .1) (l .loop .inv .3) (G .used))
 
 -- the page is free
-none : (c : tie.Then1 Inv-loop μ-loop) → let l = c .before .before .before in owner (start l .args .table .now) (l .loop .g) ≡ 0
-none c = omega (arith, c .before .owner .ensures)
+is-free : (c : tie.Then1 Inv-loop μ-loop) → let l = c .before .before .before in owner (start l .args .table .now) (l .loop .g) ≡ 0
+is-free c = omega (arith, c .before .owner .ensures)
 
 -- a span starts at the page
 first : (c : tie.Else1 Inv-loop μ-loop) → let l = c .before .before .before in IsSpan (start l .args .table .now) (l .loop .g)
@@ -58,13 +57,13 @@ loop-holds c = (omega arith, edge-first (c .before .before .pre .0 .spans), λ w
 returns : tie.Need-returns Inv-loop μ-loop
 returns c =
     let asked = c .before .free-page-ok in
-    (λ x. absurd x, λ B. no (asked .result) (free-words _ (none (c .before .before)) (asked .result) (asked .ensures)) (c .if2 .taken) (λ w _ _. facts-words (B .rules) (B .phases) w))
+    (λ x. absurd x, λ B. no (asked .result) (free-words _ (is-free (c .before .before)) (asked .result) (asked .ensures)) (c .if2 .taken) (λ w _ _. facts-words (B .rules) (B .phases) w))
 
 loop-again : tie.Need-loop-again Inv-loop μ-loop
 loop-again c =
     let asked = c .before .free-page-ok in
     let turn = free (c .before) in
-    let z = none (c .before .before) in
+    let z = is-free (c .before .before) in
     onward turn 1 (free-pages _ _ z) (free-stretch z (yes (asked .result) (free-words _ z (asked .result) (asked .ensures)) (c .if2 .left)))
 
 add-g-2 : tie.Need-add-g-2 Inv-loop μ-loop

@@ -1,7 +1,7 @@
 -- The invariant: the words of k blocks keep the rules of the span, and off, left and before are as `Stands` says at block k.
 use Prim.Native.Nat.{_+_, _-_, _*_, _≤_}
 use mathlib.Core.Path.{_≡_}
-use Rattle.model.specs.Memory.{pageWords, pageBlocks}
+use Rattle.model.specs.Memory.{pageWords, pageBlocks, wordBits}
 use Rattle.model.specs.Bounded.{allBelow}
 use native.Mathlib.Omega.{arith}
 use borrow.Author.Needs.{needs}
@@ -34,14 +34,14 @@ loop-holds c =
     (search needs, stands-first (a .p) (a .bits .now) (c .first-block .result) (a .size) (a .held) (a .allowed) (omega arith))
 
 -- the span's first word, by its first block
-first-word : (m : tie.After-first-block Inv-loop μ-loop) → pageWords * start m .args .span .start .0 ≡ 64 * m .first-block .result
+first-word : (m : tie.After-first-block Inv-loop μ-loop) → pageWords * start m .args .span .start .0 ≡ wordBits * m .first-block .result
 first-word m = omega (arith, m .first-block .ensures)
 
 -- block k of the span was tested
 tested : (c : tie.After-block-ok Inv-loop μ-loop) → let l = turn c in
     let m = l .before in
     let a = start m .args in
-    c .block-ok .result ≡ allBelow 64 (λ j. wordRule (a .p) (a .bits .now) (64 * m .first-block .result) (a .size) (a .held) (a .allowed) (64 * l .loop .k + j))
+    c .block-ok .result ≡ allBelow wordBits (λ j. wordRule (a .p) (a .bits .now) (wordBits * m .first-block .result) (a .size) (a .held) (a .allowed) (wordBits * l .loop .k + j))
 tested c =
     let l = turn c in
     let m = l .before in

@@ -1,4 +1,4 @@
--- The invariant: the span's further pages below g are so.
+-- The invariant: the span's pages below g but its first are further pages of it.
 use Rattle.model.proofs.Answers.{yes, no}
 use Rattle.audit_pages.specs.Pass.{Further}
 use Rattle.audit_pages.proofs.Pass.{body-more}

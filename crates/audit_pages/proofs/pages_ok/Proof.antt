@@ -5,8 +5,8 @@ use Prim.Native.Nat.{_-_}
 use borrow.Author.Needs.{needs}
 use Rattle.model.proofs.Answers.{yes, no}
 use Rattle.audit_pages.specs.Pass.{GoodSpan}
-use Rattle.audit_pages.proofs.Pass.{Upto, none, free-step, span-step, stray, whole, own-span, first-of, first-count}
-use Rattle.audit_pages.proofs.Stretches.{reads-own}
+use Rattle.audit_pages.proofs.Pass.{Upto, upto-first, free-step, span-step, stray, whole, first-of, first-count}
+use Rattle.audit_pages.proofs.Stretches.{reads-own, own-span}
 use Rattle.audit_pages.proofs.pages_ok.Statement.{statement}
 use Rattle.audit_pages.proofs.pages_ok.Tie as tie
 
@@ -33,10 +33,10 @@ used c = c .before .before .before
 good : (c : tie.Else4 Inv-loop μ-loop) → let l = turn (used (c .before .before)) in let a = start l .args in GoodSpan (a .p) (a .phase) (a .table .now) (l .loop .g)
 good c =
     let asked = c .before .span-ok in
-    yes (asked .result) (own-span _ _ _ (c .before .before .span-at .ensures) (asked .result) (asked .ensures)) (c .if4 .left)
+    yes (asked .result) (own-span (c .before .before .span-at .ensures) (GoodSpan _ _ _) (asked .result) (asked .ensures)) (c .if4 .left)
 
 loop-holds : tie.Need-loop-holds Inv-loop μ-loop
-loop-holds c = none _ _ _
+loop-holds c = upto-first _ _ _
 
 returns : tie.Need-returns Inv-loop μ-loop
 returns c =
@@ -63,7 +63,7 @@ returns-3 : tie.Need-returns-3 Inv-loop μ-loop
 returns-3 c =
     let asked = c .before .span-ok in
     let read = c .before .before in
-    (λ t. absurd t, λ F. no (asked .result) (own-span _ _ _ (read .span-at .ensures) (asked .result) (asked .ensures)) (c .if4 .taken) (first-of F _ (omega (arith, used read .owner .ensures))))
+    (λ t. absurd t, λ F. no (asked .result) (own-span (read .span-at .ensures) (GoodSpan _ _ _) (asked .result) (asked .ensures)) (c .if4 .taken) (first-of F _ (omega (arith, used read .owner .ensures))))
 
 add-g-2 : tie.Need-add-g-2 Inv-loop μ-loop
 add-g-2 c = omega (arith, c .before .before .before .span-at .ensures .pages, good (c .before) .inside)

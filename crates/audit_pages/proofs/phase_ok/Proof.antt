@@ -1,6 +1,6 @@
+-- A state that is neither gray nor scanned is not legal.
 use Rattle.audit_pages.proofs.Stacks.{globals-gray, globals-scanned}
 use native.Mathlib.Omega.{arith}
--- The state that is neither gray nor scanned is not legal.
 use borrow.Author.Needs.{needs}
 use Rattle.audit_pages.proofs.phase_ok.Statement.{statement}
 use Rattle.audit_pages.proofs.phase_ok.Tie as tie

@@ -1,4 +1,5 @@
 -- The invariant: the bits that are not left were taken, and their words hold references. The measure: what lies from the lowest bit that is left on.
+use Rattle.model.specs.Memory.{wordBits}
 use Rattle.audit_words.proofs.Blocks.{BitsTaken, taken-none, taken-one, taken-all, low, lowest-on, higher}
 use Rattle.bitmap.proofs.Bits.{one-up}
 use Rattle.model.specs.Bitmaps.{withBitOf}
@@ -14,7 +15,7 @@ use Rattle.audit_words.proofs.block_ok.Statement.{statement}
 use Rattle.audit_words.proofs.block_ok.Tie as tie
 
 abbrev Inv-loop : tie.InvT-loop
-Inv-loop p arena table bits swept at pointers first left₀ left = (first ≡ 64 * at) × (left < 2 ^ 64) × BitsTaken p arena table bits at pointers left
+Inv-loop p arena table bits swept at pointers first left₀ left = (first ≡ wordBits * at) × (left < 2 ^ 64) × BitsTaken p arena table bits at pointers left
 
 abbrev μ-loop : tie.MeasureT-loop
 μ-loop p arena table bits swept at pointers first left₀ left = 64 - trailingZeros 64 left

@@ -8,10 +8,9 @@ use lib.Dec.{T}
 use Rattle.model.specs.Spans.{isScan}
 use Rattle.model.specs.Facts.{IsSpan}
 use Rattle.model.proofs.Answers.{yes, no}
-use Rattle.audit_pages.specs.Stretch.{stretch}
-use Rattle.audit_pages.proofs.Stretches.{Edge, NextStretch, edge-first, begins, next, spans-more, reads-own, free-pages, span-pages}
+use Rattle.audit_pages.proofs.Stretches.{stretch, Edge, NextStretch, edge-first, begins, next, spans-more, reads-own, own-span, free-pages, span-pages}
 use Rattle.audit_words.specs.Contents.{SpanContents}
-use Rattle.audit_words.proofs.Contents.{plain-span, own-span, each-span, every-span}
+use Rattle.audit_words.proofs.Contents.{plain-span, each-span, every-span}
 use Rattle.audit_words.proofs.contents_ok.Statement.{statement}
 use Rattle.audit_words.proofs.contents_ok.Tie as tie
 
@@ -21,12 +20,16 @@ Inv-loop p arena table bits swept g₀ g = (g ≤ p) × Edge table g × ((s : �
 abbrev μ-loop : tie.MeasureT-loop
 μ-loop p arena table bits swept g₀ g = p - g
 
--- the places: the function's entry; the turn, where a span was read and the pages after it counted
+-- the places: the function's entry, and the turn, where a span was read
 abbrev start : tie.At-loop Inv-loop μ-loop → tie.Start Inv-loop μ-loop
 start l = l .before .before .before .before
 
 abbrev read : tie.After-struct-known Inv-loop μ-loop → tie.In-loop Inv-loop μ-loop
 read c = c .before .before .before .before
+
+-- what is asked of the span that was read
+abbrev contents : (c : tie.After-struct-known Inv-loop μ-loop) → ℕ → Type 0
+contents c = let a = start (read c .before) .args in SpanContents (a .p) (a .arena .now) (a .table .now) (a .bits .now)
 
 -- where the next stretch begins, and what is known there
 ahead : (c : tie.In-loop Inv-loop μ-loop) → let a = start (c .before) .args in NextStretch (a .p) (a .table .now) (c .before .loop .g)
@@ -76,7 +79,7 @@ returns c =
     let span = c .before .before .before in
     let F = start (read span .before) .pre .0 in
     let i = first (span .before .before) in
-    (λ x. absurd x, λ C. no (asked .result) (own-span _ _ _ _ F (span .before .span-at .ensures) i (asked .result) (asked .ensures)) (c .if3 .taken) (each-span _ _ _ _ F C _ i))
+    (λ x. absurd x, λ C. no (asked .result) (own-span (span .before .span-at .ensures) (contents span) (asked .result) (asked .ensures)) (c .if3 .taken) (each-span _ _ _ _ F C _ i))
 
 loop-less-2 : tie.Need-loop-less-2 Inv-loop μ-loop
 loop-less-2 c = let span = c .before .before .before in omega (arith, pages span, ahead (read span))
@@ -85,8 +88,7 @@ loop-again-2 : tie.Need-loop-again-2 Inv-loop μ-loop
 loop-again-2 c =
     let asked = c .before .span-ok in
     let span = c .before .before .before in
-    let F = start (read span .before) .pre .0 in
-    onward (read span) _ (pages span) (λ i _. yes (asked .result) (own-span _ _ _ _ F (span .before .span-at .ensures) i (asked .result) (asked .ensures)) (c .if3 .left))
+    onward (read span) _ (pages span) (λ i _. yes (asked .result) (own-span (span .before .span-at .ensures) (contents span) (asked .result) (asked .ensures)) (c .if3 .left))
 
 loop-less-3 : tie.Need-loop-less-3 Inv-loop μ-loop
 loop-less-3 c = omega (arith, pages (c .before), ahead (read (c .before)))

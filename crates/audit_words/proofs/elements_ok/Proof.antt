@@ -1,6 +1,5 @@
 -- The invariant: the kept elements whose bit stands below `at` have references in their pointer words.
-use Rattle.audit_words.proofs.Contents.{found-range, found-element, found-pointers, next, all}
-use Rattle.audit_words.specs.Contents.{ContentsBelow}
+use Rattle.audit_words.proofs.Contents.{ContentsBelow, found-range, found-element, found-pointers, next, all}
 use Prim.Native.Nat.{_+_, _-_, _≤_}
 use Rattle.model.proofs.Answers.{yes, no}
 use native.Mathlib.Omega.{arith}

@@ -1,7 +1,7 @@
 -- A swept span is tested by its pointer bits, an unswept one by its kept elements.
 use Prim.Native.Nat.{_+_, _≤_}
 use Rattle.model.specs.Classes.{rows, mostLarge}
-use Rattle.audit_words.proofs.Contents.{read-fits, read-searched}
+use Rattle.audit_words.proofs.Contents.{read-bounds, read-searched}
 use Rattle.audit_words.proofs.Blocks.{read-swept}
 use native.Mathlib.Omega.{arith}
 use borrow.Author.Tests.{not-true, not-false}
@@ -14,7 +14,7 @@ start c = c .before .before .before .before
 
 -- what the entry gives
 fits : (c : tie.After-struct-known) → let a = start c .args in (a .span .class ≤ rows) × (a .span .pages ≤ mostLarge) × (a .span .start .0 + a .span .pages ≤ a .p)
-fits c = let s = start c in read-fits _ _ _ _ (s .pre .0) (s .pre .3) (s .pre .2)
+fits c = let s = start c in read-bounds _ _ _ _ (s .pre .0) (s .pre .3) (s .pre .2)
 
 first-block-requires : tie.Need-first-block-requires
 first-block-requires c κs = omega (arith, fits (c .before), start (c .before) .pre .0 .consistent)

@@ -1,4 +1,4 @@
--- No set bit from `from` on lies in the words before its own; then its own is asked, masked, and then the first word after it that has a bit.
+-- The word of `from` is asked first, masked; where it has no bit, the first word after it that has one. No bit from `from` on lies in the words before.
 use Prim.Native.Nat.{_*_, _/_, _%_, _^_, _-_, _<_}
 use mathlib.Core.Path.{_∙_}
 use native.Mathlib.Omega.{arith}

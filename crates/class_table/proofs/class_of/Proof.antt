@@ -1,4 +1,4 @@
--- `classes::class_of` meets its contract. The loop's invariant: no class up to k has an element as large as the size. The measure is what is left of
+-- `class_table::class_of` meets its contract. The loop's invariant: no class up to k has an element as large as the size. The measure is what is left of
 -- the rows.
 use Prim.Native.Nat.{ℕ, _+_, _-_, _<_, _≤_}
 use mathlib.Core.Bool.{Bool, false}

@@ -1,4 +1,4 @@
--- `classes::row_of` meets its contract.
+-- `class_table::row_of` meets its contract.
 use borrow.Author.Needs.{needs}
 use Rattle.class_table.proofs.Compact.{row-at}
 use Rattle.class_table.proofs.row_of.Statement.{statement}

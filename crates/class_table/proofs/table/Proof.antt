@@ -1,4 +1,4 @@
--- `classes::table` meets its contract: the code's table and the model's rows are one list.
+-- `class_table::table` meets its contract: the code's table and the model's rows are one list.
 use mathlib.Core.Path.{refl}
 use Rattle.model.specs.Classes.{classRows}
 use Rattle.class_table.proofs.table.Statement.{statement}
