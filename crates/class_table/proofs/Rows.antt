@@ -6,24 +6,23 @@ use native.Mathlib.Nat.{mul-div-mul-left}
 use native.Mathlib.Omega.{arith}
 use lib.Dec.{T}
 use borrow.Author.Tests.{ne-eqb}
-use Rattle.model.specs.Bounded.{_==_, _<?_, _≤?_, allBelow}
+use Rattle.model.specs.Bounded.{_==_, _<?_, allBelow}
 use Rattle.model.specs.Memory.{pageBytes, pageWords, wordBytes}
-use Rattle.model.specs.Classes.{rows, classRows, elementBytes, spanBytes, maxSmall, elementWordsOf, elementsOf, classPages}
-use Rattle.model.proofs.Tests.{is-true, and-iff, eqb-iff, ltb-iff, leb-iff}
+use Rattle.model.specs.Classes.{rows, classRows, elementBytes, spanBytes, elementWordsOf, elementsOf, classPages}
+use Rattle.model.proofs.Tests.{is-true, and-iff, eqb-iff, ltb-iff}
 use Rattle.model.proofs.Bounded.{all-at}
 use Rattle.model.proofs.Classes.{small-words}
 
 -- what holds of the row of class c
 pub record RowFacts (c : ℕ) : Type 0 where
   pub some : 0 < elementBytes c
-  pub small : elementBytes c ≤ maxSmall
   pub words : elementBytes c % wordBytes ≡ 0
   pub whole : spanBytes c ≡ pageBytes * classPages c
 
 -- .. as one test
 rowTest : ℕ → Bool
 rowTest c =
-    0 <? elementBytes c && elementBytes c ≤? maxSmall && elementBytes c % wordBytes == 0 && spanBytes c == pageBytes * classPages c
+    0 <? elementBytes c && elementBytes c % wordBytes == 0 && spanBytes c == pageBytes * classPages c
 
 row-tests : allBelow rows (λ k. rowTest (k + 1)) ≡ true
 unfolding rowTest classPages elementBytes spanBytes classRows allBelow
@@ -34,8 +33,8 @@ unfolding rowTest
 row-facts c h l =
     let e : (c - 1) + 1 ≡ c = omega arith in
     let t : T (rowTest c) = rw e at (is-true _ (all-at rows (λ k. rowTest (k + 1)) row-tests (c - 1) (omega arith))) in
-    let f = simp (and-iff, ltb-iff, leb-iff, eqb-iff) at t in
-    record { some = f .0 .0 .0; small = f .0 .0 .1; words = f .0 .1; whole = f .1 }
+    let f = simp (and-iff, ltb-iff, eqb-iff) at t in
+    record { some = f .0 .0; words = f .0 .1; whole = f .1 }
 
 -- the elements of a span: the words of its pages by those of an element
 elements-by-words : (c : ℕ) → 0 < c → c ≤ rows → elementsOf c ≡ pageWords * classPages c / (elementBytes c / wordBytes)

@@ -1,19 +1,14 @@
-// The class table: for each of the 66 classes the words of an element and the pages of a span, and the
-// class of a size, as the model's specs/Classes.antt defines them. The compiler builds the table on the
-// stack in each call that reads it, so its rows are small. A crate apart from classes for the gate's
-// time: each wrong program proves its whole crate again, and a constant array of structs is dear.
-ghost use mathlib.Core.List.{map};
+// The class table: for each of the 66 classes the words of an element and the pages of a span, as the
+// model's specs/Classes.antt defines them. The compiler builds the table on the stack in each call that
+// reads it, so its rows are small. A crate apart from classes for the gate's time: each wrong program
+// proves its whole crate again, and a constant array of structs is dear.
 ghost use mathlib.Core.Path.{_≡_};
 ghost use Prim.Native.Nat.{_/_, _≤_};
-ghost use Rattle.model.specs.Memory.{pageBytes, wordBytes};
-ghost use Rattle.model.specs.Classes.{rows, classRows, elementBytes, classOf, classPages};
-use units::WORD_BYTES;
+ghost use Rattle.model.specs.Memory.{wordBytes};
+ghost use Rattle.model.specs.Classes.{rows, elementBytes, classPages};
 
 // The number of classes but class 0.
 pub const ROWS: usize = 66;
-
-// The largest size of a record that shares its span.
-const MAX_SMALL: u64 = 32768;
 
 // The words of a class's element, and the pages of its span.
 pub struct Row(pub u16, pub u16);
@@ -88,37 +83,10 @@ const CLASS_ROWS: [Row; ROWS] = [
     Row(4096, 4), // 32768 per 32768
 ];
 
-// Alone in reading CLASS_ROWS, so that one proof ties it to the model's rows.
-fn table() -> [Row; ROWS]
-    ensures { λ r. ⌜ r ≡ map (λ x. (x .element / wordBytes, x .span / pageBytes)) classRows ⌝ }
-{
-    CLASS_ROWS
-}
-
 // The row of class c.
 pub fn row_of(c: usize) -> Row
     requires { ⌜ (1 ≤ c) × (c ≤ rows) ⌝ }
     ensures { λ r. ⌜ (r .0 ≡ elementBytes c / wordBytes) × (r .1 ≡ classPages c) ⌝ }
 {
-    let rows = table();
-    rows[c - 1]
-}
-
-// The lowest class whose element is at least that large; 0 for a size that gets pages of its own.
-pub fn class_of(size: u64) -> usize
-    ensures { λ r. ⌜ r ≡ classOf size ⌝ }
-{
-    if MAX_SMALL < size {
-        return 0;
-    }
-    // One table for all turns of the loop.
-    let rows = table();
-    let mut k = 0;
-    while k < ROWS {
-        if size <= WORD_BYTES * rows[k].0 as u64 {
-            return k + 1;
-        }
-        k += 1;
-    }
-    k + 1
+    CLASS_ROWS[c - 1]
 }

@@ -1,5 +1,6 @@
 // Size classes: the shape of a record by its size and its pointer words, and what a span of a class
-// holds, as the model's specs/Classes.antt defines them. Crate class_table has the classes' rows.
+// holds, as the model's specs/Classes.antt defines them. Crate class_lookup has the
+// class of a size, class_table the classes' rows.
 ghost use mathlib.Core.Bool.{cond};
 ghost use mathlib.Core.Path.{_≡_};
 ghost use Prim.Native.Nat.{_+_, _*_, _^_, _≤_, _<_};
@@ -7,7 +8,7 @@ ghost use lib.Dec.{eqb};
 ghost use Rattle.model.specs.Lent.{StartsMask};
 ghost use Rattle.model.specs.Classes.{rows, classPages, elementWordsOf, elementsOf};
 ghost use Rattle.classes.specs.Shape.{Shaped};
-use class_table::class_of;
+use class_lookup::class_of;
 use class_table::row_of;
 use units::PAGE_BYTES;
 use units::PAGE_WORDS;
