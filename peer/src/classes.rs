@@ -1,6 +1,6 @@
-//! The 66 size classes, and what follows from them: the class and kind of a
-//! record, the pages of its span, and for each class a bitmap of the places in
-//! a span where an element starts.
+//! The 66 size classes, and what follows from them: two tables in which the
+//! class of a size is looked up, the kind of a record, the pages of its span,
+//! and for each class a bitmap of the places in a span where an element starts.
 
 use crate::layout::{
     Page, Word, BITMAP_BITS, PAGE_BITMAP_WORDS, PAGE_BYTES, PAGE_WORDS, WORD_BYTES,
@@ -48,6 +48,39 @@ pub const CLASSES: [ClassRow; CLASS_COUNT] = [
     row(28672, 57344), row(32768, 32768),
 ];
 
+/// Sizes up to `MAX_FINE_BYTES` are looked up in steps of 8 bytes, larger ones
+/// in steps of 128 bytes above `COARSE_BASE`.
+const MAX_FINE_BYTES: u64 = 1_016;
+const FINE_STEP: u64 = 8;
+const COARSE_BASE: u64 = 1_024;
+const COARSE_STEP: u64 = 128;
+const FINE_ENTRIES: usize = (COARSE_BASE / FINE_STEP) as usize + 1;
+const COARSE_ENTRIES: usize = ((MAX_SMALL_BYTES - COARSE_BASE) / COARSE_STEP) as usize + 1;
+
+/// Entry n is the class of the sizes above 8 x (n - 1) and up to 8 x n. The
+/// first entry and the last are not used.
+pub static FINE_CLASSES: [u8; FINE_ENTRIES] = lookup_table(0, FINE_STEP);
+/// Entry n is the class of the sizes above 1,024 + 128 x (n - 1) and up to
+/// 1,024 + 128 x n; those that use entry 0 start behind `MAX_FINE_BYTES`.
+pub static COARSE_CLASSES: [u8; COARSE_ENTRIES] = lookup_table(COARSE_BASE, COARSE_STEP);
+
+/// A table whose entry n is the class of the size first + n x step, which is
+/// the largest that uses the entry.
+const fn lookup_table<const ENTRIES: usize>(first: u64, step: u64) -> [u8; ENTRIES] {
+    let mut table = [0; ENTRIES];
+    let mut class = 1;
+    let mut entry = 0;
+    while entry < ENTRIES {
+        let largest = first + step * entry as u64;
+        while CLASSES[class - 1].element_bytes < largest {
+            class += 1;
+        }
+        table[entry] = class as u8;
+        entry += 1;
+    }
+    table
+}
+
 const MAX_CLASS_PAGES: usize = 10;
 type Starts = [u64; MAX_CLASS_PAGES * PAGE_BITMAP_WORDS];
 
@@ -77,7 +110,12 @@ pub fn class_of(size: u64) -> usize {
     if size > MAX_SMALL_BYTES {
         return 0;
     }
-    CLASSES.partition_point(|row| row.element_bytes < size) + 1
+    let class = if size <= MAX_FINE_BYTES {
+        FINE_CLASSES[size.div_ceil(FINE_STEP) as usize]
+    } else {
+        COARSE_CLASSES[size.saturating_sub(COARSE_BASE).div_ceil(COARSE_STEP) as usize]
+    };
+    usize::from(class)
 }
 
 /// The pages of a new span for a record of this size.

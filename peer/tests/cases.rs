@@ -6,7 +6,8 @@ mod common;
 
 use common::slow::{self, printed_rows};
 use common::{calls, every_call, refusal, Harness, Owned};
-use peer::classes::{class_of, element_words, span_pages, Kind, CLASSES};
+use peer::classes::{class_of, element_words, span_pages, Kind};
+use peer::classes::{CLASSES, COARSE_CLASSES, FINE_CLASSES};
 use peer::{Answer, Call};
 
 /// Carries calls out under all checks; gives the answer of the last.
@@ -76,6 +77,21 @@ fn sizes_take_their_classes() {
     }
     for size in 32_769..=1_048_576 {
         assert_eq!((class_of(size), span_pages(size)), (0, size.div_ceil(8192) as usize));
+    }
+}
+
+#[test]
+fn lookup_entries_are_the_classes_of_their_sizes() {
+    assert_eq!((FINE_CLASSES.len(), COARSE_CLASSES.len()), (129, 249));
+    let fine = (1..=127).map(|entry| (FINE_CLASSES[entry], entry as u64 * 8, 8));
+    let middle = (COARSE_CLASSES[0], 1024, 8);
+    let coarse = (1..=248).map(|entry| (COARSE_CLASSES[entry], 1024 + entry as u64 * 128, 128));
+    // Each used entry, the largest size that uses it, and how many sizes do.
+    for (class, largest, sizes) in fine.chain([middle]).chain(coarse) {
+        for size in largest - sizes + 1..=largest {
+            let row = printed_rows().iter().find(|row| row[1] >= size).unwrap();
+            assert_eq!(u64::from(class), row[0], "size {size}");
+        }
     }
 }
 

@@ -5,55 +5,18 @@
 //! each call the answers and every word of the two memories have to be equal.
 
 use std::collections::HashMap;
-use std::fmt::{self, Display};
 use std::mem::discriminant;
 
 use peer::layout::{MAX_PAGES, PHASE};
 use peer::random::{CallMaker, Random};
-use peer::{Buffers, Call};
+use peer::Call;
 
 use crate::damage::{fill_with_anything, random_change, Change};
 use crate::heaps::random_heap;
 use crate::lines::with_one_number_changed;
-use crate::memory::{lengths, Lengths, Memory, Place};
+use crate::memory::{lengths, Lengths, Memory};
+use crate::pair::{Difference, Memories, Pair};
 use crate::proved::Numbers;
-
-pub type Heap = fn(&Call, Buffers<'_>) -> Numbers;
-
-/// The two heaps that are compared.
-#[derive(Clone, Copy)]
-pub struct Pair {
-    pub plain: Heap,
-    pub proved: Heap,
-}
-
-/// At most so many differing words are shown.
-const SHOWN_WORDS: usize = 8;
-
-/// A call after which the two sides differ.
-pub struct Difference {
-    pub list: u64,
-    pub step: u64,
-    pub pages: u64,
-    pub call: Call,
-    pub lengths: Lengths,
-    pub plain: Numbers,
-    pub proved: Numbers,
-    /// Place, plain word, proved word.
-    pub words: Vec<(Place, u64, u64)>,
-}
-
-impl Display for Difference {
-    fn fmt(&self, out: &mut fmt::Formatter<'_>) -> fmt::Result {
-        writeln!(out, "list {}, call {}: {:?}", self.list, self.step, self.call)?;
-        writeln!(out, "on a heap of {} pages, lent lengths {:?}", self.pages, self.lengths)?;
-        writeln!(out, "answers, refusal first: plain {:?}, proved {:?}", self.plain, self.proved)?;
-        for (place, plain, proved) in &self.words {
-            writeln!(out, "{place}: plain {plain:#x}, proved {proved:#x}")?;
-        }
-        Ok(())
-    }
-}
 
 /// How often each call met each refusal in each phase.
 #[derive(Default)]
@@ -93,8 +56,7 @@ struct List {
     pages: u64,
     /// Pages that the memory has room for.
     room: u64,
-    plain: Memory,
-    proved: Memory,
+    memories: Memories,
     /// The call that is the first setup, if the list needs one.
     setup_at: Option<u64>,
     /// Shares in a thousand of damage, of wild calls, of calls with one wrong
@@ -112,13 +74,12 @@ impl List {
         let mut random = random;
         let maker = CallMaker::new(&mut random, pages);
         let room = pages + random.below(2);
-        let (plain, setup_at) = first_memory(&mut random, pages, room);
+        let (memory, setup_at) = first_memory(&mut random, pages, room);
         List {
             maker,
             pages,
             room,
-            proved: plain.clone(),
-            plain,
+            memories: Memories::new(pages, memory),
             setup_at,
             damage_share: random.pick(&[0, 0, 3, 30, 300]),
             wild_share: random.pick(&[0, 10, 50]),
@@ -129,22 +90,19 @@ impl List {
         }
     }
 
-    /// Carries out the next call on both sides; gives what differs then.
-    fn step(&mut self, step: u64, pair: &Pair, visits: &mut Visits) -> Option<Difference> {
+    /// Carries out the next call on both sides, which then have to be equal.
+    fn step(&mut self, step: u64, pair: &Pair, visits: &mut Visits) -> Result<(), Box<Difference>> {
         self.damage_or_repair(visits);
         let call = self.next_call(step);
         let lengths = self.next_lengths(&call);
-        let phase = self.plain.roots()[PHASE];
-        let plain = (pair.plain)(&call, self.plain.lend(lengths));
-        let proved = (pair.proved)(&call, self.proved.lend(lengths));
-        visits.count(&call, phase, &plain);
-        if plain == proved && self.plain == self.proved {
-            return None;
-        }
-        let differences = self.plain.differences(&self.proved).take(SHOWN_WORDS);
-        let words = differences.map(|p| (p, self.plain.get(p), self.proved.get(p))).collect();
-        let pages = self.pages;
-        Some(Difference { list: 0, step, pages, call, lengths, plain, proved, words })
+        let phase = self.memories.plain.roots()[PHASE];
+        let result = self.memories.carry_out(&call, lengths, pair);
+        let answer = match &result {
+            Ok(answer) => answer,
+            Err(difference) => &difference.plain,
+        };
+        visits.count(&call, phase, answer);
+        result.map(|_| ())
     }
 
     fn next_call(&mut self, step: u64) -> Call {
@@ -155,7 +113,7 @@ impl List {
         if before_setup || self.random.chance(self.wild_share) {
             return self.maker.wild_call(&mut self.random);
         }
-        let call = self.maker.next(&mut self.random, self.plain.roots());
+        let call = self.maker.next(&mut self.random, self.memories.plain.roots());
         if self.random.chance(self.wrong_share) {
             return with_one_number_changed(&mut self.random, call);
         }
@@ -173,7 +131,7 @@ impl List {
             return usual;
         }
         let mut odd = usual;
-        let longest = self.plain.longest();
+        let longest = self.memories.plain.longest();
         let buffer = self.random.below(4) as usize;
         let (length, most) = (usual[buffer], longest[buffer]);
         let any = self.random.below(most as u64 + 1) as usize;
@@ -189,7 +147,7 @@ impl List {
             }
         } else if self.random.chance(300) {
             for (place, value) in std::mem::take(&mut self.undo).into_iter().rev() {
-                self.change(place, value);
+                self.memories.set(place, value);
             }
         } else if self.random.chance(30) {
             self.undo.clear();
@@ -198,15 +156,11 @@ impl List {
 
     fn damage(&mut self) {
         for _ in 0..1 + self.random.below(3) {
-            let (place, value) = random_change(&mut self.random, &self.plain, self.pages);
-            self.undo.push((place, self.plain.get(place)));
-            self.change(place, value);
+            let plain = &self.memories.plain;
+            let (place, value) = random_change(&mut self.random, plain, self.pages);
+            self.undo.push((place, plain.get(place)));
+            self.memories.set(place, value);
         }
-    }
-
-    fn change(&mut self, place: Place, value: u64) {
-        self.plain.set(place, value);
-        self.proved.set(place, value);
     }
 }
 
@@ -247,9 +201,7 @@ pub fn run_list(
     let (pages, length) = extent(&mut random);
     let mut running = List::new(random, pages);
     for step in 0..length {
-        if let Some(difference) = running.step(step, pair, visits) {
-            return Err(Box::new(Difference { list, ..difference }));
-        }
+        running.step(step, pair, visits)?;
     }
     Ok(())
 }

@@ -1,15 +1,18 @@
-//! Compares the proved heap with the plain one on random lists of calls, call
-//! for call and word for word. It prints the seed, and with the same seed makes
-//! the same lists. It ends with status 1 at the first difference, or where the
-//! lists have not been everywhere. `--self-check` puts wrong heaps in the plain
-//! one's place, each of which has to be found out.
+//! Compares the proved heap with the plain one on records of every size and on
+//! random lists of calls, call for call and word for word. It prints the seed,
+//! and with the same seed makes the same lists. It ends with status 1 at the
+//! first difference, or where the sizes or the lists have not been everywhere.
+//! `--self-check` puts wrong heaps in the plain one's place, each of which has
+//! to be found out.
 
 use std::process::ExitCode;
 use std::time::Instant;
 
-use compare::lists::{run_list, Difference, Pair, Visits};
+use compare::lists::{run_list, Visits};
 use compare::options::Options;
+use compare::pair::{Difference, Heap, Pair};
 use compare::proved::{numbers_of, proved_numbers, Numbers};
+use compare::sizes::{run_sizes, FIRST_MAX, FIRST_STEP, SECOND_BASE, SECOND_STEP};
 use peer::calls::apply_with_fault;
 use peer::faults::*;
 use peer::layout::{CLOSED, FIRST_STATE};
@@ -40,7 +43,7 @@ fn main() -> ExitCode {
     } else if options.flag("list") {
         one_list(seed, options.number("list", 0))
     } else {
-        many_lists(seed, options.number("calls", CALLS))
+        every_size() && many_lists(seed, options.number("calls", CALLS))
     };
     if right {
         ExitCode::SUCCESS
@@ -55,17 +58,33 @@ fn right_heap(call: &Call, lent: Buffers<'_>) -> Numbers {
     numbers_of(apply(call, lent))
 }
 
-fn report(seed: u64, difference: &Difference) {
-    println!("the heaps differ, seed {seed}");
+fn report(seed: u64, list: u64, difference: &Difference) {
+    println!("the heaps differ, seed {seed}, list {list}");
     print!("{difference}");
-    println!("again: compare --seed {seed} --list {}", difference.list);
+    println!("again: compare --seed {seed} --list {list}");
+}
+
+fn every_size() -> bool {
+    let uses = match run_sizes(&PAIR) {
+        Ok(uses) => uses,
+        Err(difference) => {
+            println!("the heaps differ on a size");
+            print!("{difference}");
+            return false;
+        }
+    };
+    println!("sizes: {uses}");
+    if !uses.complete() {
+        println!("the sizes have not been everywhere");
+    }
+    uses.complete()
 }
 
 fn one_list(seed: u64, list: u64) -> bool {
     let mut visits = Visits::default();
     let result = run_list(seed, list, &PAIR, &mut visits);
     println!("{} calls of list {list}", visits.calls);
-    result.map_err(|difference| report(seed, &difference)).is_ok()
+    result.map_err(|difference| report(seed, list, &difference)).is_ok()
 }
 
 fn many_lists(seed: u64, calls: u64) -> bool {
@@ -74,7 +93,7 @@ fn many_lists(seed: u64, calls: u64) -> bool {
     let mut lists = 0;
     while visits.calls < calls {
         if let Err(difference) = run_list(seed, lists, &PAIR, &mut visits) {
-            report(seed, &difference);
+            report(seed, lists, &difference);
             return false;
         }
         lists += 1;
@@ -134,9 +153,44 @@ fn slot_before_stack(call: &Call, lent: Buffers<'_>) -> Numbers {
     }
 }
 
+/// Allocates a record of another size.
+fn with_size(call: &Call, lent: Buffers<'_>, other: fn(u64) -> u64) -> Numbers {
+    let mut call = *call;
+    if let Call::Allocate { size, .. } = &mut call {
+        *size = other(*size);
+    }
+    right_heap(&call, lent)
+}
+
+/// Rounds sizes of the first table down to whole entries instead of up.
+fn entry_too_low(call: &Call, lent: Buffers<'_>) -> Numbers {
+    with_size(call, lent, |size| match size {
+        FIRST_STEP..=FIRST_MAX => size / FIRST_STEP * FIRST_STEP,
+        _ => size,
+    })
+}
+
+/// Looks the sizes just above 1,024 up in the entry behind theirs.
+fn entry_late(call: &Call, lent: Buffers<'_>) -> Numbers {
+    const JUST_ABOVE: u64 = SECOND_BASE + 1;
+    const LAST: u64 = SECOND_BASE + SECOND_STEP;
+    with_size(call, lent, |size| match size {
+        JUST_ABOVE..=LAST => size + SECOND_STEP,
+        _ => size,
+    })
+}
+
+/// Takes 1,024 for a size above 1,024.
+fn base_too_high(call: &Call, lent: Buffers<'_>) -> Numbers {
+    with_size(call, lent, |size| match size {
+        SECOND_BASE => SECOND_BASE + 1,
+        _ => size,
+    })
+}
+
 /// Whether each wrong heap is found out.
 fn self_check(seed: u64) -> bool {
-    let wrong_heaps: [(&str, compare::lists::Heap); 10] = [
+    let wrong_heaps: [(&str, Heap); 10] = [
         ("shades only the new value", with_fault::<SHADE_ONLY_NEW>),
         ("shades only the old value", with_fault::<SHADE_ONLY_OLD>),
         ("allocates white", with_fault::<ALLOCATE_WHITE>),
@@ -148,11 +202,26 @@ fn self_check(seed: u64) -> bool {
         ("changes a word with a refusal", change_with_refusal),
         ("refuses in the wrong order", slot_before_stack),
     ];
-    let found = wrong_heaps.map(|(name, plain)| found_out(seed, name, plain));
-    found.into_iter().all(|found| found)
+    let wrong_lookups: [(&str, Heap); 3] = [
+        ("looks sizes up one entry too low", entry_too_low),
+        ("uses the second table one entry late", entry_late),
+        ("gives 1,024 the next class", base_too_high),
+    ];
+    let by_lists = wrong_heaps.map(|(name, plain)| found_by_lists(seed, name, plain));
+    let by_sizes = wrong_lookups.map(|(name, plain)| found_by_sizes(name, plain));
+    by_lists.into_iter().chain(by_sizes).all(|found| found)
 }
 
-fn found_out(seed: u64, name: &str, plain: compare::lists::Heap) -> bool {
+fn found_by_sizes(name: &str, plain: Heap) -> bool {
+    let found = run_sizes(&Pair { plain, ..PAIR }).err();
+    match &found {
+        Some(difference) => println!("a heap that {name}: found out by {:?}", difference.call),
+        None => println!("a heap that {name}: NOT found out by any size"),
+    }
+    found.is_some()
+}
+
+fn found_by_lists(seed: u64, name: &str, plain: Heap) -> bool {
     let pair = Pair { plain, ..PAIR };
     let mut visits = Visits::default();
     let found = (0..SELF_CHECK_LISTS).any(|list| run_list(seed, list, &pair, &mut visits).is_err());
