@@ -6,7 +6,7 @@ use crate::layout::{
     Page, Word, BITMAP_BITS, PAGE_BITMAP_WORDS, PAGE_BYTES, PAGE_WORDS, WORD_BYTES,
 };
 
-/// The largest record that has a size class of its own.
+/// The largest record of the classes 1 to 66; a larger one has class 0.
 pub const MAX_SMALL_BYTES: u64 = 32_768;
 /// The largest record at all.
 pub const MAX_RECORD_BYTES: u64 = 1_048_576;

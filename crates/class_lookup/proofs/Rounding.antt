@@ -12,7 +12,7 @@ use Rattle.model.proofs.Tests.{is-true, same-test, and-iff, implies-iff, eqb-if
 use Rattle.model.proofs.Bounded.{all-at, first-cong}
 use Rattle.class_lookup.specs.Tables.{fineStep, fineSize, fineLast, coarseStart, coarseStep, coarseSize}
 
--- row k: an element is whole fine steps, and one above those of the fine table is whole coarse steps
+-- row k: an element is whole fine steps, and one above the last size of the fine table is whole coarse steps
 stepTest : ℕ → Bool
 stepTest k =
     elementBytes (k + 1) % fineStep == 0 && (fineLast <? elementBytes (k + 1) implies elementBytes (k + 1) % coarseStep == 0)
@@ -25,7 +25,7 @@ step-at : (k : ℕ) → k < rows → (elementBytes (k + 1) % fineStep ≡ 0) × 
 unfolding stepTest
 step-at k l = simp (and-iff, implies-iff, ltb-iff, eqb-iff) at (is-true _ (all-at rows stepTest step-tests k l))
 
--- no whole number of steps lies between a size and the next one
+-- no element of whole steps lies between a size and the size rounded up
 next-step : (step size n e : ℕ) → step * n < size + step → e % step ≡ 0 → size ≤ e → step * n ≤ e
 next-step step size n e l w h = go (ltb (e / step) n) refl
   where

@@ -1,4 +1,5 @@
--- The two tables in which the class of a size is looked up: how many entries each has, and which size an entry stands for.
+-- The two tables in which the class of a size is looked up: how many entries each has, which size an entry stands for, and up to which size the
+-- first is used.
 use Prim.Native.Nat.{ℕ, _+_, _*_}
 
 -- "129 entries, one per 8 bytes"

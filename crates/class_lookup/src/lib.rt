@@ -1,12 +1,12 @@
-// The class of a size, looked up in the runtime's two tables: one entry for each 8 bytes of a size up
-// to 1,016, and above it one for each 128 bytes. Each table is read by one function. The compiler builds
-// it on the stack in each call of that function, so an entry is a byte.
+// The class of a size, looked up in the runtime's two tables: for sizes up to 1,016 one entry for each
+// 8 bytes, and for the rest one for each 128 bytes above 1,024. Each table is read by one function. The
+// compiler builds it on the stack in each call of that function, so an entry is a byte.
 ghost use mathlib.Core.Path.{_≡_};
 ghost use Prim.Native.Nat.{_<_};
 ghost use Rattle.model.specs.Classes.{classOf};
 ghost use Rattle.class_lookup.specs.Tables.{fineEntries, fineSize, coarseEntries, coarseSize};
 
-// The largest size of a record that shares its span.
+// The largest size that is looked up; a larger one has class 0.
 const MAX_SMALL: u64 = 32768;
 
 // The fine table: its entries, the bytes from one to the next, and the largest size looked up in it.
@@ -23,9 +23,10 @@ const COARSE_START: u64 = 1024;
 
 const COARSE_STEP: u64 = 128;
 
-// The runtime's size_to_class8: entry i is the class of 8 × i bytes, which stand beside it.
+// The runtime's size_to_class8: entry i is the class of 8 × i bytes, which stand beside it. Entry 0 is
+// 0 there; no record uses it or the last one.
 const FINE_CLASSES: [u8; FINE_ENTRIES] = [
-    1, // 0, which no record has
+    1, // 0
     1, // 8
     2, // 16
     3, // 24

@@ -1,6 +1,6 @@
 // Size classes: the shape of a record by its size and its pointer words, and what a span of a class
-// holds, as the model's specs/Classes.antt defines them. Crate class_lookup has the
-// class of a size, class_table the classes' rows.
+// holds, as the model's specs/Classes.antt defines them. Crate class_lookup has the class of a size,
+// class_table the classes' rows.
 ghost use mathlib.Core.Bool.{cond};
 ghost use mathlib.Core.Path.{_≡_};
 ghost use Prim.Native.Nat.{_+_, _*_, _^_, _≤_, _<_};

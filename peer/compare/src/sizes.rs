@@ -1,7 +1,7 @@
-//! Every size that is looked up, and some of class 0: each is allocated by both
-//! heaps on a heap that was just set up, with and without a pointer word. The
-//! class of a size is looked up in two tables, and how often an allocation used
-//! each of their entries is counted.
+//! Every size that is looked up, and some of class 0: both heaps are asked for a
+//! record of that size just after a setup, with and without a pointer word. The
+//! class of a size is looked up in two tables; counted is in which of their
+//! entries the accepted sizes fall.
 
 use std::collections::HashMap;
 use std::fmt::{self, Display};
@@ -21,7 +21,7 @@ pub const FIRST_MAX: u64 = 1_016;
 const FIRST_USED: RangeInclusive<u64> = 1..=127;
 pub const SECOND_STEP: u64 = 128;
 pub const SECOND_BASE: u64 = 1_024;
-const SECOND_MAX: u64 = 32_768;
+pub const SECOND_MAX: u64 = 32_768;
 const SECOND_USED: RangeInclusive<u64> = 0..=248;
 
 /// The pages of the heap: the longest span of a class has so many.
@@ -33,7 +33,7 @@ const LARGE_PAGES: [u64; 7] = [5, 6, 7, 8, 9, 10, 128];
 /// What the arena holds at first, so that a word that is not zeroed shows.
 const OLD_WORD: u64 = 0x5a5a_5a5a_5a5a_5a5a;
 
-/// Where the class of a size is found.
+/// Where the class of a size is to be found.
 #[derive(PartialEq, Eq, Hash)]
 enum Entry {
     First(u64),
@@ -54,7 +54,7 @@ impl Entry {
     }
 }
 
-/// How often accepted allocations used each entry.
+/// How many accepted allocations had a size of each entry.
 #[derive(Default)]
 pub struct Uses {
     counts: HashMap<Entry, u64>,
@@ -77,7 +77,7 @@ impl Uses {
         SECOND_USED.filter(|&entry| self.of(Entry::Second(entry)) > 0).count()
     }
 
-    /// Whether each entry that a size can use was used, and class 0 as well.
+    /// Whether each entry that a size can have was met, and class 0 as well.
     pub fn complete(&self) -> bool {
         self.first_used() == FIRST_USED.count()
             && self.second_used() == SECOND_USED.count()
@@ -90,7 +90,7 @@ impl Display for Uses {
         let (first, second) = (FIRST_USED.count(), SECOND_USED.count());
         write!(out, "{} of {first} entries of the first table, ", self.first_used())?;
         write!(out, "{} of {second} of the second, ", self.second_used())?;
-        write!(out, "class 0: {}", self.of(Entry::ClassZero))
+        write!(out, "{} records of class 0", self.of(Entry::ClassZero))
     }
 }
 

@@ -12,7 +12,7 @@ use compare::lists::{run_list, Visits};
 use compare::options::Options;
 use compare::pair::{Difference, Heap, Pair};
 use compare::proved::{numbers_of, proved_numbers, Numbers};
-use compare::sizes::{run_sizes, FIRST_MAX, FIRST_STEP, SECOND_BASE, SECOND_STEP};
+use compare::sizes::{run_sizes, FIRST_MAX, FIRST_STEP, SECOND_BASE, SECOND_MAX, SECOND_STEP};
 use peer::calls::apply_with_fault;
 use peer::faults::*;
 use peer::layout::{CLOSED, FIRST_STATE};
@@ -162,15 +162,16 @@ fn with_size(call: &Call, lent: Buffers<'_>, other: fn(u64) -> u64) -> Numbers {
     right_heap(&call, lent)
 }
 
-/// Rounds sizes of the first table down to whole entries instead of up.
-fn entry_too_low(call: &Call, lent: Buffers<'_>) -> Numbers {
+/// Rounds sizes of the first table down to whole entries, but for those below
+/// the first entry.
+fn rounded_down(call: &Call, lent: Buffers<'_>) -> Numbers {
     with_size(call, lent, |size| match size {
         FIRST_STEP..=FIRST_MAX => size / FIRST_STEP * FIRST_STEP,
         _ => size,
     })
 }
 
-/// Looks the sizes just above 1,024 up in the entry behind theirs.
+/// Looks 1,025 to 1,152 up in the entry after theirs.
 fn entry_late(call: &Call, lent: Buffers<'_>) -> Numbers {
     const JUST_ABOVE: u64 = SECOND_BASE + 1;
     const LAST: u64 = SECOND_BASE + SECOND_STEP;
@@ -181,9 +182,17 @@ fn entry_late(call: &Call, lent: Buffers<'_>) -> Numbers {
 }
 
 /// Takes 1,024 for a size above 1,024.
-fn base_too_high(call: &Call, lent: Buffers<'_>) -> Numbers {
+fn border_too_low(call: &Call, lent: Buffers<'_>) -> Numbers {
     with_size(call, lent, |size| match size {
         SECOND_BASE => SECOND_BASE + 1,
+        _ => size,
+    })
+}
+
+/// Takes the largest size that is looked up for a larger one.
+fn last_size_short(call: &Call, lent: Buffers<'_>) -> Numbers {
+    with_size(call, lent, |size| match size {
+        SECOND_MAX => SECOND_MAX + 1,
         _ => size,
     })
 }
@@ -202,10 +211,11 @@ fn self_check(seed: u64) -> bool {
         ("changes a word with a refusal", change_with_refusal),
         ("refuses in the wrong order", slot_before_stack),
     ];
-    let wrong_lookups: [(&str, Heap); 3] = [
-        ("looks sizes up one entry too low", entry_too_low),
-        ("uses the second table one entry late", entry_late),
-        ("gives 1,024 the next class", base_too_high),
+    let wrong_lookups: [(&str, Heap); 4] = [
+        ("rounds sizes down to whole entries", rounded_down),
+        ("looks 1,025 up one entry late", entry_late),
+        ("gives 1,024 the next class", border_too_low),
+        ("gives 32,768 pages of its own", last_size_short),
     ];
     let by_lists = wrong_heaps.map(|(name, plain)| found_by_lists(seed, name, plain));
     let by_sizes = wrong_lookups.map(|(name, plain)| found_by_sizes(name, plain));
