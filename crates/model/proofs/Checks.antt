@@ -9,12 +9,12 @@ use lib.Dec.{T, eqb, ltb}
 use borrow.Author.Tests.{eqb-true, eqb-false, ltb-true, ltb-false}
 use Rattle.model.specs.Bounded.{allBelow, someBelow}
 use Rattle.model.specs.Memory.{Heap, goodBuffers, words, state, phase, globalsState, stackCount, slotCount, globalCount, wordBytes, mark, sweep, closed, grayState}
-use Rattle.model.specs.Answers.{_given_, _orElse_, badBuffers, damaged, sweepFirst, noRoom}
+use Rattle.model.specs.Answers.{_given_, _orElse_, badBuffers, damaged, noRoom}
 use Rattle.model.specs.Bitmaps.{is, gray}
 use Rattle.model.specs.Spans.{elementWords, spanOf, pointerCount}
 use Rattle.model.specs.Checks.{buffersRefusal, slotRefusal, slotsRefusal, globalRefusal, pointerRefusal, numberRefusal, recordAt, openRefusal}
 use Rattle.model.specs.Audit.{audit}
-use Rattle.model.specs.Allocate.{roomFor, roomRefusal, allocateRefusal, someUnswept}
+use Rattle.model.specs.Allocate.{roomFor, roomRefusal, allocateRefusal}
 use Rattle.model.specs.Classes.{kindOf, pagesFor, maxSize}
 use Rattle.model.specs.Cycle.{firstGray, finishRefusal}
 use Rattle.model.specs.Calls.{entry}
@@ -90,28 +90,22 @@ unfolding numberRefusal slotRefusal
 number-passed h s j f e = let x = simp passes at e in
     record { stack = record { below = x .0 .0 .0; isOpen = x .0 .0 .1 }; slot = x .0 .1; named = x .1 .0; low = x .1 .1 .0; high = x .1 .1 .1 }
 
--- an allocation: its slot, its size, and room
+-- an allocation: its slot and its size, before any sweep; and room, after the sweeps
 pub record Allocates (h : Heap) (s i size p : ℕ) : Type 0 where
   pub stack : OpenStack h s
   pub slot : i < slotCount
   pub some : size ≢ 0
   pub limit : size ≤ maxSize
   pub pointers : p ≤ size / wordBytes
-  pub room : T (roomFor h (kindOf size p) (pagesFor size))
 
 pub room-passed : (h : Heap) (kind n : ℕ) → roomRefusal h kind n ≡ 0 → T (roomFor h kind n)
 unfolding roomRefusal
-room-passed h kind n e = go (roomFor h kind n) (eqb (phase h) sweep && someUnswept (h .pages) (h .table)) e
-  where
-    go : (a b : Bool) → _≡_ {A = ℕ} (cond a 0 (cond b sweepFirst noRoom)) 0 → T a
-    go true b e = tt
-    go false true e = absurd (omega arith)
-    go false false e = absurd (omega arith)
+room-passed h kind n e = simp (given-iff, not-not-iff) at e
 
 pub allocate-passed : (h : Heap) (s i size p : ℕ) → allocateRefusal h s i size p ≡ 0 → Allocates h s i size p
 unfolding allocateRefusal slotRefusal
 allocate-passed h s i size p e = let x = simp passes at e in
-    record { stack = record { below = x .0 .0 .0; isOpen = x .0 .0 .1 }; slot = x .0 .1; some = x .1 .0 .0 .0; limit = x .1 .0 .0 .1; pointers = x .1 .0 .1; room = room-passed h (kindOf size p) (pagesFor size) (x .1 .1) }
+    record { stack = record { below = x .0 .0 .0; isOpen = x .0 .0 .1 }; slot = x .0 .1; some = x .1 .0 .0; limit = x .1 .0 .1; pointers = x .1 .1 }
 
 -- nothing is gray
 pub record NothingGray (h : Heap) : Type 0 where

@@ -16,3 +16,4 @@ pub mod Shading
 pub mod Outcomes
 pub mod Tempting
 pub mod Effects
+pub mod Sweeps

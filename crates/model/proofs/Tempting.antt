@@ -18,7 +18,7 @@ use Rattle.model.specs.Bitmaps.{Part, allocated, marked, pointer, is, pu
 use Rattle.model.specs.Spans.{owner, pageCount, kindEntry, isUnswept, elements, elementStart, recordOf}
 use Rattle.model.specs.Answers.{_given_, _orElse_}
 use Rattle.model.specs.Shading.{shade, shadeAll, barrier}
-use Rattle.model.specs.Allocate.{hasRoom, newBits, newWord, allocate, allocateRefusal}
+use Rattle.model.specs.Allocate.{hasRoom, newBits, newWord, roomRefusal, placeRecord}
 use Rattle.model.specs.Cycle.{start, scanStack, sweptBits, sweptTable, nothingLeft}
 use Rattle.model.specs.Facts.{IsSpan, Sized, bit}
 use Rattle.model.proofs.Tests.{is-true, of-false, same-test, or-iff}
@@ -97,10 +97,10 @@ module _ (h : Heap) (Z : Sized h) where
   born-marked one w p hw l v = simp (one, written) refl
 
   -- the words of a new record are 0
-  pub born-zero : (s i size p : ℕ) → allocateRefusal h s i size p ≡ 0 →
+  pub born-zero : (s i size p : ℕ) → roomRefusal h (kindOf size p) (pagesFor size) ≡ 0 →
       let w = newWord h (kindOf size p) (pagesFor size) in let n = elementWordsOf (classOf size) (pagesFor size) in
-      w + n ≤ pageWords * h .pages → (v : ℕ) → w ≤ v → v < w + n → getD (allocate h s i size p .heap .arena) v 0 ≡ 0
-  unfolding allocate
+      w + n ≤ pageWords * h .pages → (v : ℕ) → w ≤ v → v < w + n → getD (placeRecord h s i size p .heap .arena) v 0 ≡ 0
+  unfolding placeRecord
   born-zero s i size p e l v a b = let k = Z .arena in simp (e, words-at (pageWords * h .pages), within-yes) refl
 
   -- the span that an allocation takes an element of is swept

@@ -1,15 +1,17 @@
--- Allocating: the span, the element or the pages that a record takes, "no room" and "sweep first", and what the call leaves.
-use Prim.Native.Nat.{ℕ, _+_, _-_}
+-- Allocating: the span, the element or the pages that a record takes, the sweeps that make room for it, "no room", and what the call leaves.
+-- Sentences marked [2] are those of that change request. Read the sweep of one span (`sweptSpan` of Cycle) before them.
+use Prim.Native.Nat.{ℕ, zero, suc, _+_, _-_}
 use mathlib.Core.Bool.{Bool, true, _&&_, _||_, not}
-use mathlib.Core.List.{List}
+use mathlib.Core.List.{List, [], _∷_, _++_}
 use lib.ListN.{set}
-use Rattle.model.specs.Bounded.{_==_, _<?_, _≤?_, _implies_, if_then_else_, allBelow, firstBelow, someBelow}
-use Rattle.model.specs.Memory.{Heap, lent, words, putWords, slotAt, phase, mark, sweep, addressOf, firstWord}
-use Rattle.model.specs.Answers.{Outcome, outcome, _orElse_, sweepFirst, noRoom}
+use Rattle.model.specs.Bounded.{_==_, _<?_, _≤?_, _implies_, if_then_else_, allBelow, firstBelow}
+use Rattle.model.specs.Memory.{Heap, lent, words, putWords, slotAt, phase, mark, addressOf, firstWord}
+use Rattle.model.specs.Answers.{Outcome, outcome, _given_, _orElse_, noRoom}
 use Rattle.model.specs.Classes.{classOf, kindOf, pagesFor, elementWordsOf}
 use Rattle.model.specs.Bitmaps.{is, allocated, marked, pointer, putBit, putBits}
-use Rattle.model.specs.Spans.{kindEntry, isFree, startsSpan, isUnswept, elements, elementStart, putPages, spanPage}
+use Rattle.model.specs.Spans.{kindEntry, kindAt, isFree, startsSpan, isUnswept, elements, elementStart, putPages, spanPage}
 use Rattle.model.specs.Checks.{slotRefusal, sizeRefusal}
+use Rattle.model.specs.Cycle.{sweptSpan}
 use Rattle.model.specs.declared.Answer.the-variants.{Value}
 
 -- "its lowest free element": of the span at page s, or the number of its elements
@@ -40,20 +42,64 @@ isShortest P t n g = isRun P t n g && allBelow P (λ k. isRun P t n k implies ru
 unfoldable pub bestRun : ℕ → List ℕ → ℕ → ℕ
 bestRun P t n = firstBelow P (isShortest P t n)
 
--- some span is unswept
-unfoldable pub someUnswept : ℕ → List ℕ → Bool
-someUnswept P t = someBelow P (λ s. startsSpan t s && isUnswept t s)
+-- a swept span of the kind has a free element; a run of at least n pages is free
+abbrev pub elementFree : ℕ → Heap → Bool
+elementFree kind h = spanWithRoom h kind <? h .pages
+
+abbrev pub pagesFree : ℕ → Heap → Bool
+pagesFree n h = bestRun (h .pages) (h .table) n <? h .pages
 
 -- there is room for a record of this kind, whose new span would take n pages
 abbrev pub roomFor : Heap → ℕ → ℕ → Bool
-roomFor h kind n = spanWithRoom h kind <? h .pages || bestRun (h .pages) (h .table) n <? h .pages
+roomFor h kind n = elementFree kind h || pagesFree n h
 
--- 8: "no room, phase is sweep, and some span is unswept"; 9: "no room otherwise"
+-- 9: "no room"
 unfoldable pub roomRefusal : Heap → ℕ → ℕ → ℕ
-roomRefusal h kind n =
-    if roomFor h kind n then 0
-    else if phase h == sweep && someUnswept (h .pages) (h .table) then sweepFirst
-    else noRoom
+roomRefusal h kind n = noRoom given not (roomFor h kind n)
+
+-- SWEEPING FOR ROOM. The unswept span with the lowest start page that passes a test, or P
+unfoldable pub nextUnswept : (Heap → ℕ → Bool) → Heap → ℕ
+nextUnswept test h = firstBelow (h .pages) (λ s. startsSpan (h .table) s && isUnswept (h .table) s && test h s)
+
+-- unswept spans that pass a test are swept, "from the lowest start page until" a goal is met or none is left, and at most n of them: the heap after
+-- each sweep
+unfoldable pub sweepAtMost : ℕ → (Heap → Bool) → (Heap → ℕ → Bool) → Heap → List Heap
+sweepAtMost zero goal test h = []
+sweepAtMost (suc n) goal test h =
+    let s = nextUnswept test h in
+    let more = sweptSpan s h ∷ sweepAtMost n goal test (sweptSpan s h) in
+    if goal h || h .pages ≤? s then [] else more
+
+-- .. as many as there may be: no more spans are unswept than there are pages
+abbrev pub sweepUntil : (Heap → Bool) → (Heap → ℕ → Bool) → Heap → List Heap
+sweepUntil goal test h = sweepAtMost (h .pages) goal test h
+
+-- the last of some heaps, or h where there is none
+unfoldable pub lastOf : Heap → List Heap → Heap
+lastOf h [] = h
+lastOf h (g ∷ gs) = lastOf g gs
+
+-- a span of the kind, by its start page; any span
+abbrev pub ofKind : ℕ → Heap → ℕ → Bool
+ofKind kind h s = kindAt (h .table) s == kind
+
+abbrev pub anySpan : Heap → ℕ → Bool
+anySpan h s = true
+
+-- [2] "when no swept span of the kind has room, sweep unswept spans of that kind from the lowest start page until one has a free element (one returned
+-- whole has none)"
+unfoldable pub kindSweeps : ℕ → Heap → List Heap
+kindSweeps kind h = sweepUntil (elementFree kind) (ofKind kind) h
+
+-- [2] "If none has, look for pages; if no run fits, sweep the remaining spans in order and look after each."
+unfoldable pub pageSweeps : ℕ → ℕ → Heap → List Heap
+pageSweeps kind n h = if elementFree kind h then [] else sweepUntil (pagesFree n) anySpan h
+
+-- all of them, in order. [2] "In the sweep phase": in the others no span is unswept, and there is none to sweep
+unfoldable pub roomSweeps : ℕ → ℕ → Heap → List Heap
+roomSweeps kind n h =
+    let first = kindSweeps kind h in
+    first ++ pageSweeps kind n (lastOf h first)
 
 -- the first word of the element that the record takes
 unfoldable pub newWord : Heap → ℕ → ℕ → ℕ
@@ -74,17 +120,30 @@ newBits h w p =
     let b = putBits (words h) pointer w p (λ v. true) (putBit (words h) allocated w true (h .bits)) in
     if phase h == mark then putBit (words h) marked w true b else b
 
--- "Into slot i of stack s, a size and p."
-unfoldable pub allocateRefusal : Heap → ℕ → ℕ → ℕ → ℕ → ℕ
-allocateRefusal h s i size p =
-    slotRefusal h s i orElse sizeRefusal size p orElse roomRefusal h (kindOf size p) (pagesFor size)
-
--- "All words of the element become 0 ... The answer is the address."
-unfoldable pub allocate : Heap → ℕ → ℕ → ℕ → ℕ → Outcome
-allocate h s i size p =
+-- "All words of the element become 0 ... The answer is the address.", on a heap that was swept for room; where there is none it is refused, and left
+unfoldable pub placeRecord : Heap → ℕ → ℕ → ℕ → ℕ → Outcome
+placeRecord h s i size p =
     let kind = kindOf size p in
     let n = pagesFor size in
     let w = newWord h kind n in
     let arena = putWords w (elementWordsOf (classOf size) n) (λ v. 0) (h .arena) in
     let roots = set (h .roots) (slotAt s i) (addressOf w) in
-    outcome (allocateRefusal h s i size p) h (Value (addressOf w)) (lent (h .pages) arena (newTable h kind n) (newBits h w p) roots)
+    outcome (roomRefusal h kind n) h (Value (addressOf w)) (lent (h .pages) arena (newTable h kind n) (newBits h w p) roots)
+
+-- "Into slot i of stack s, a size and p."; the refusals but 9: [2] "all others are tested before any sweep"
+unfoldable pub allocateRefusal : Heap → ℕ → ℕ → ℕ → ℕ → ℕ
+allocateRefusal h s i size p = slotRefusal h s i orElse sizeRefusal size p
+
+-- the heaps after the sweeps inside the call, and the last of them
+unfoldable pub allocateSweeps : Heap → ℕ → ℕ → ℕ → ℕ → List Heap
+allocateSweeps h s i size p = if allocateRefusal h s i size p == 0 then roomSweeps (kindOf size p) (pagesFor size) h else []
+
+abbrev pub sweptForRoom : Heap → ℕ → ℕ → Heap
+sweptForRoom h size p = lastOf h (roomSweeps (kindOf size p) (pagesFor size) h)
+
+-- the call: refused before any sweep, or the record put in its place on the heap that the sweeps leave. [2] "9 is given exactly when nothing fits
+-- after all that and leaves every span swept, the one refusal that changes words"
+unfoldable pub allocate : Heap → ℕ → ℕ → ℕ → ℕ → Outcome
+allocate h s i size p =
+    let placed = placeRecord (sweptForRoom h size p) s i size p in
+    outcome (allocateRefusal h s i size p) h (placed .answer) (placed .heap)

@@ -11,7 +11,7 @@ use Rattle.model.specs.declared.Answer.the-variants.{Refused, Done, Valu
 
 infixr 20 _orElse_
 infix 22 _given_
--- The table of refusals: "No. | Name | Given when", in the order in which they are tested.
+-- The table of refusals: "No. | Name | Given when", in the order in which they are tested. [2] "Refusal 8 disappears".
 abbrev pub badBuffers : ℕ
 badBuffers = 1
 
@@ -35,9 +35,6 @@ nilSlot = 6
 
 abbrev pub badField : ℕ
 badField = 7
-
-abbrev pub sweepFirst : ℕ
-sweepFirst = 8
 
 abbrev pub noRoom : ℕ
 noRoom = 9
@@ -77,7 +74,8 @@ pub record Outcome : Type 0 where
   pub answer : Answer
   pub heap : Heap
 
--- "A refusal ... changes no word in any buffer": refusal n of a call on h; where n is 0, the answer and the heap that it leaves
+-- "A refusal ... changes no word in any buffer": refusal n of a call on h; where n is 0, the answer and the heap that it leaves. ([2] The one refusal
+-- that changes words is 9: the allocation has swept before it is refused, and h is then the heap that its sweeps left.)
 abbrev pub outcome : ℕ → Heap → Answer → Heap → Outcome
 outcome n h a done = record { answer = cond (n == 0) a (Refused n); heap = choose (n == 0) done h }
 

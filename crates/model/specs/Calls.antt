@@ -2,12 +2,12 @@
 use Prim.Native.Nat.{ℕ}
 use mathlib.Core.Bool.{Bool, true, false, not}
 use mathlib.Core.List.{List, [], _∷_}
-use Rattle.model.specs.Bounded.{if_then_else_}
+use Rattle.model.specs.Bounded.{_==_, if_then_else_}
 use Rattle.model.specs.Memory.{Heap, lent}
 use Rattle.model.specs.Answers.{Outcome, outcome, damaged, _given_, _orElse_}
 use Rattle.model.specs.Checks.{buffersRefusal}
 use Rattle.model.specs.Audit.{audit}
-use Rattle.model.specs.Allocate.{allocate}
+use Rattle.model.specs.Allocate.{allocate, allocateSweeps}
 use Rattle.model.specs.Records.{setup, openStack, closeStack, copy, clear, load, store, put, get, loadGlobal, storeGlobal}
 use Rattle.model.specs.Cycle.{start, scanStack, scanGlobals, markStep, finish, sweepStep}
 use Rattle.model.specs.declared.Answer.{Answer}
@@ -82,10 +82,28 @@ abbrev pub step : Heap → Request → Outcome
 step h r = run (lent (r .pages) (h .arena) (h .table) (h .bits) (h .roots)) (r .call)
 
 -- A call goes by stages: each sweep inside it leaves a heap, and then the call leaves the heap at its end. The heaps after the sweeps inside a call,
--- in order: none, since no call sweeps inside but a sweep step, which is a call of its own. What demand 3 counts as freed reads these heaps, so a
--- reader has to believe them as he believes `run`: each is to be the sweep of one span of the heap before it, and the call to go on from the last.
+-- in order: an allocation's, once its entry has let it in; a sweep step is a call of its own. What demand 3 counts as freed reads these heaps; each is
+-- the one before it with one unswept span swept (crate history, Beyond), and an allocation goes on from the last of them.
 unfoldable pub sweepsIn : Heap → Call → List Heap
-sweepsIn h c = []
+sweepsIn h Setup = []
+sweepsIn h Audit = []
+sweepsIn h (Open s) = []
+sweepsIn h (Close s) = []
+sweepsIn h (Allocate s i size p) = if entry h == 0 then allocateSweeps h s i size p else []
+sweepsIn h (Copy s i j) = []
+sweepsIn h (Clear s i) = []
+sweepsIn h (Load s i j f) = []
+sweepsIn h (Store s j f k) = []
+sweepsIn h (Put s j f v) = []
+sweepsIn h (Get s j f) = []
+sweepsIn h (LoadGlobal s i g) = []
+sweepsIn h (StoreGlobal s g i) = []
+sweepsIn h Start = []
+sweepsIn h (ScanStack s) = []
+sweepsIn h ScanGlobals = []
+sweepsIn h MarkStep = []
+sweepsIn h Finish = []
+sweepsIn h SweepStep = []
 
 -- .. of a call as it is made
 abbrev pub sweepsOf : Heap → Request → List Heap

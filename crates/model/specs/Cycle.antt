@@ -96,6 +96,10 @@ sweptTable h s =
     if nothingLeft h s then putPages s n (λ g. freePage) (h .table)
     else putPage s (spanPage s n (kindAt (h .table) s) s) (h .table)
 
+-- the heap with the span at page s swept
+abbrev pub sweptSpan : ℕ → Heap → Heap
+sweptSpan s h = lent (h .pages) (h .arena) (sweptTable h s) (sweptBits h s) (h .roots)
+
 -- "Sweep step (phase sweep): take the unswept span with the lowest start page. ... The answer is start page + 1, elements freed, pages returned.
 -- If no span is unswept: 0, 0, 0, and the phase becomes 0"
 unfoldable pub sweepStep : Heap → Outcome
@@ -103,6 +107,5 @@ sweepStep h =
     let s = firstUnswept (h .pages) (h .table) in
     let found = s <? h .pages in
     let returned = if nothingLeft h s then pageCount (h .table) s else 0 in
-    let swept = lent (h .pages) (h .arena) (sweptTable h s) (sweptBits h s) (h .roots) in
     outcome (phaseRefusal h sweep) h (cond found (Swept (s + 1) (freedCount h s) returned) (Swept 0 0 0))
-    (choose found swept (setRoot phaseAt off h))
+    (choose found (sweptSpan s h) (setRoot phaseAt off h))

@@ -1,0 +1,78 @@
+-- The sweeps that make room for an allocation: each sweeps one unswept span, and P, the arena and the roots stay as they were.
+use Prim.Native.Nat.{ℕ, zero, suc, _<_, _≤_}
+use mathlib.Core.Bool.{Bool, true, false, cond, _&&_, _||_}
+use mathlib.Core.List.{List, [], _∷_, _++_}
+use mathlib.Core.Path.{_≡_, refl}
+use lib.Dec.{leb}
+use borrow.Author.Tests.{leb-false}
+use Rattle.model.specs.Memory.{Heap, unsweptFlag}
+use Rattle.model.specs.Spans.{kindEntry, startsSpan, isUnswept}
+use Rattle.model.specs.Cycle.{sweptSpan}
+use Rattle.model.specs.Allocate.{elementFree, pagesFree, anySpan, nextUnswept, sweepAtMost, sweepUntil, lastOf, kindSweeps, pageSweeps, roomSweeps}
+use Rattle.model.specs.Facts.{IsSpan}
+use Rattle.model.specs.Room.{Sweeps, none, more}
+use Rattle.model.proofs.Tests.{is-true}
+use Rattle.model.proofs.Bounded.{first-props}
+use Rattle.model.proofs.Rules.{tests}
+
+-- the span that is swept next is unswept
+pub next-unswept : (test : Heap → ℕ → Bool) (h : Heap) → nextUnswept test h < h .pages →
+    IsSpan (h .table) (nextUnswept test h) × (unsweptFlag ≤ kindEntry (h .table) (nextUnswept test h))
+unfolding nextUnswept
+next-unswept test h l =
+    let s = nextUnswept test h in
+    let x = simp tests at (is-true (startsSpan (h .table) s && isUnswept (h .table) s && test h s)
+    (first-props (h .pages) (λ s. startsSpan (h .table) s && isUnswept (h .table) s && test h s) .holds l)) in
+    (x .0 .0, x .0 .1)
+
+pub until-sweeps : (n : ℕ) (goal : Heap → Bool) (test : Heap → ℕ → Bool) (h : Heap) → Sweeps h (sweepAtMost n goal test h)
+unfolding sweepAtMost
+until-sweeps zero goal test h = none
+until-sweeps (suc n) goal test h = go (goal h) (leb (h .pages) (nextUnswept test h)) refl (until-sweeps n goal test (sweptSpan (nextUnswept test h) h))
+  where
+    s : ℕ
+    s = nextUnswept test h
+
+    go : (a b : Bool) → leb (h .pages) s ≡ b → Sweeps (sweptSpan s h) (sweepAtMost n goal test (sweptSpan s h)) →
+        Sweeps h (cond (a || b) [] (sweptSpan s h ∷ sweepAtMost n goal test (sweptSpan s h)))
+    go true b e x = none
+    go false true e x = none
+    go false false e x = let u = next-unswept test h (leb-false (h .pages) s e) in more s (u .0) (u .1) x
+
+-- some sweeps and then others
+pub join : {h : Heap} {gs ks : List Heap} → Sweeps h gs → Sweeps (lastOf h gs) ks → Sweeps h (gs ++ ks)
+unfolding lastOf
+join none y = y
+join (more s i u x) y = more s i u (join x y)
+
+pub kind-sweeps : (kind : ℕ) (h : Heap) → Sweeps h (kindSweeps kind h)
+unfolding kindSweeps
+kind-sweeps kind h = until-sweeps (h .pages) _ _ h
+
+pub page-sweeps : (kind n : ℕ) (h : Heap) → Sweeps h (pageSweeps kind n h)
+unfolding pageSweeps
+page-sweeps kind n h = go (elementFree kind h)
+  where
+    go : (b : Bool) → Sweeps h (cond b [] (sweepUntil (pagesFree n) anySpan h))
+    go true = none
+    go false = until-sweeps (h .pages) _ _ h
+
+pub room-sweeps : (kind n : ℕ) (h : Heap) → Sweeps h (roomSweeps kind n h)
+unfolding roomSweeps
+room-sweeps kind n h = join (kind-sweeps kind h) (page-sweeps kind n (lastOf h (kindSweeps kind h)))
+
+-- what sweeps leave alone
+pub last-pages : {h : Heap} {gs : List Heap} → Sweeps h gs → lastOf h gs .pages ≡ h .pages
+unfolding lastOf
+last-pages none = refl
+last-pages (more s i u x) = last-pages x
+
+pub last-arena : {h : Heap} {gs : List Heap} → Sweeps h gs → lastOf h gs .arena ≡ h .arena
+unfolding lastOf
+last-arena none = refl
+last-arena (more s i u x) = last-arena x
+
+pub last-roots : {h : Heap} {gs : List Heap} → Sweeps h gs → lastOf h gs .roots ≡ h .roots
+unfolding lastOf
+last-roots none = refl
+last-roots (more s i u x) = last-roots x
