@@ -5,7 +5,7 @@ use Prim.Native.Nat.{ℕ, _+_, _*_, _≤_, _<_}
 use mathlib.Core.List.{List}
 use mathlib.Core.Bool.{Bool, true, false, cond, _&&_}
 use mathlib.Core.Logic.{inl, _≢_}
-use mathlib.Core.Path.{_≡_, refl}
+use mathlib.Core.Path.{_≡_, refl, _∙_}
 use native.Mathlib.Omega.{arith}
 use lib.ListN.{set}
 use lib.Dec.{T, eqb, ltb}
@@ -17,9 +17,9 @@ use Rattle.model.specs.Classes.{classOf, kindOf, pagesFor, elementWordsOf}
 use Rattle.model.specs.Spans.{owner, pageCount, kindEntry, startsSpan, isUnswept, kept}
 use Rattle.model.specs.Checks.{buffersRefusal, phaseRefusal, openRefusal, closedRefusal, slotRefusal, slotsRefusal, globalRefusal, pointerRefusal, numberRefusal, recordAt}
 use Rattle.model.specs.Shading.{barrier, shadeCount}
-use Rattle.model.specs.Allocate.{allocate, newBits, newTable, newWord, allocateRefusal}
+use Rattle.model.specs.Allocate.{allocate, placeRecord, newBits, newTable, newWord, allocateRefusal, roomRefusal, roomSweeps, sweptForRoom}
 use Rattle.model.specs.Records.{setup, fresh, openStack, closeStack, emptied, copy, clear, load, store, put, get, loadGlobal, storeGlobal}
-use Rattle.model.specs.Cycle.{start, scan, scanStack, scanGlobals, markStep, finish, sweepStep, firstGray, firstUnswept, scanRecord, finishRefusal, freedCount, nothingLeft}
+use Rattle.model.specs.Cycle.{start, scan, scanStack, scanGlobals, markStep, finish, sweepStep, firstGray, firstUnswept, scanRecord, finishRefusal, freedCount, nothingLeft, sweptSpan}
 use Rattle.model.specs.Calls.{entry, entryRefusal, asksAudit, does, run}
 use Rattle.model.specs.declared.Call.{Call}
 use Rattle.model.specs.declared.Call.the-variants.{Setup, Audit, Start, ScanGlobals, MarkStep, Finish, SweepStep, Open, Close, ScanStack, Clear, Copy, Get, LoadGlobal, StoreGlobal, Allocate, Load, Store, Put}
@@ -35,14 +35,15 @@ use Rattle.model.proofs.Spans.{fits}
 use Rattle.model.proofs.Named.{kept-element}
 use Rattle.model.proofs.Facts.{pointer-word}
 use Rattle.model.proofs.Audit.{sized-good}
-use Rattle.model.proofs.Checks.{passes, orElse-iff, open-passed, slot-passed, slots-passed, global-passed, pointer-passed, number-passed, allocate-passed, finish-passed, entry-passes}
-use Rattle.keeps.proofs.Refusals.{phase-not, open-not, closed-not, slot-not, slots-not, global-not, pointer-not, field-not, allocate-not, scan-not, finish-not}
+use Rattle.model.specs.Room.{Sweeps}
+use Rattle.model.proofs.Sweeps.{room-sweeps, last-pages, still-allocates}
+use Rattle.model.proofs.Checks.{passes, orElse-iff, open-passed, slot-passed, slots-passed, global-passed, pointer-passed, number-passed, Allocates, allocate-passed, room-passed, finish-passed, entry-passes}
+use Rattle.keeps.proofs.Refusals.{phase-not, open-not, closed-not, slot-not, slots-not, global-not, pointer-not, field-not, allocate-not, room-not, scan-not, finish-not}
 use Rattle.keeps.proofs.Roots.{Refers, slot-kept, emptied-kept, started, started-kept, ended-kept}
 use Rattle.keeps.proofs.Shaded.{store-kept, store-global-kept, put-kept, scan-stack-kept, scan-globals-kept, mark-kept}
 use Rattle.keeps.proofs.Allotted.{allotted}
 use Rattle.keeps.proofs.Allocated.{choice, chosen-kept}
-use Rattle.keeps.proofs.SweptTable.{swept}
-use Rattle.keeps.proofs.Swept.{swept-kept}
+use Rattle.keeps.proofs.Swept.{swept-kept, sweeps-kept}
 use Rattle.keeps.proofs.Fresh.{fresh-kept}
 use Rattle.keeps.proofs.Finished.{finished, finish-kept}
 
@@ -76,6 +77,22 @@ none-unswept {h} F l s i =
     let f = first-props (h .pages) (λ s. startsSpan (h .table) s && isUnswept (h .table) s) in
     let b = f .before s (omega (arith, F .spans .inside s i, fits (F .spans) s i)) in
     leb-false unsweptFlag (kindEntry (h .table) s) (rw (eq-eqb (owner (h .table) s) (s + 1) i) at b)
+
+-- a record put in its place, on the heap that the sweeps for it have left
+place-pages : (h : Heap) (s i size p : ℕ) → placeRecord h s i size p .heap .pages ≡ h .pages
+unfolding placeRecord
+place-pages h s i size p = refl
+
+place-keeps : {h : Heap} → Audited h → (s i size p : ℕ) → Allocates h s i size p → Keeps h (placeRecord h s i size p)
+unfolding placeRecord newBits
+place-keeps {h} F s i size p x = by-refusal F (roomRefusal h (kindOf size p) (pagesFor size)) (room-not h (kindOf size p) (pagesFor size)) (Value (addressOf w))
+    (allotted s i w (elementWordsOf (classOf size) (pagesFor size)) p (withTable (newTable h (kindOf size p) (pagesFor size)) h)) (omega arith) refl (λ e.
+    let o = x .stack in
+    let room = room-passed h (kindOf size p) (pagesFor size) e in
+    chosen-kept F (choice F size p (takes size p (x .some) (x .limit) (x .pointers)) room) s i (o .below) (x .slot) (o .isOpen))
+  where
+    w : ℕ
+    w = newWord h (kindOf size p) (pagesFor size)
 
 module _ {h : Heap} (F : Audited h) where
   -- what a slot holds, and what a record in one names
@@ -151,15 +168,24 @@ module _ {h : Heap} (F : Audited h) where
   unfolding get
   get-keeps s j f = by-refusal F (numberRefusal h s j f) (field-not h s j f) (Value (word h (recordAt h s j + f))) h (omega arith) refl (λ e. F)
 
+  -- an allocation: refused before any sweep, or made on the heap that its sweeps leave
   allocate-keeps : (s i size p : ℕ) → Keeps h (allocate h s i size p)
-  unfolding allocate newBits
-  allocate-keeps s i size p = by-refusal F (allocateRefusal h s i size p) (allocate-not h s i size p) (Value (addressOf w))
-      (allotted s i w (elementWordsOf (classOf size) (pagesFor size)) p (withTable (newTable h (kindOf size p) (pagesFor size)) h)) (omega arith) refl (λ e.
-      let x = allocate-passed h s i size p e in let o = x .stack in
-      chosen-kept F (choice F size p (takes size p (x .some) (x .limit) (x .pointers)) (x .room)) s i (o .below) (x .slot) (o .isOpen))
+  unfolding allocate
+  allocate-keeps s i size p = go (eqb (allocateRefusal h s i size p) 0) refl
     where
-      w : ℕ
-      w = newWord h (kindOf size p) (pagesFor size)
+      g : Heap
+      g = sweptForRoom h size p
+
+      S : Sweeps h (roomSweeps (kindOf size p) (pagesFor size) h)
+      S = room-sweeps (kindOf size p) (pagesFor size) h
+
+      go : (b : Bool) → eqb (allocateRefusal h s i size p) 0 ≡ b →
+          Keeps h (record { answer = cond b (placeRecord g s i size p .answer) (Refused (allocateRefusal h s i size p)); heap = choose b (placeRecord g s i size p .heap) h })
+      go true e =
+          let x = allocate-passed h s i size p (eqb-true (allocateRefusal h s i size p) 0 e) in
+          let K = place-keeps (sweeps-kept S F) s i size p (still-allocates S x) in
+          record { pages = K .pages ∙ last-pages S; audited = K .audited; sound = K .sound }
+      go false e = record { pages = place-pages g s i size p ∙ last-pages S; audited = rw (place-pages g s i size p, last-pages S) F; sound = allocate-not h s i size p }
 
   start-keeps : Keeps h (start h)
   unfolding start
@@ -201,7 +227,7 @@ module _ {h : Heap} (F : Audited h) where
   unfolding sweepStep
   sweep-step-keeps = by-refusal F (phaseRefusal h sweep) (phase-not h sweep)
       (cond (ltb s (h .pages)) (Swept (s + 1) (freedCount h s) (cond (nothingLeft h s) (pageCount (h .table) s) 0)) (Swept 0 0 0))
-      (choose (ltb s (h .pages)) (swept s h) (setRoot phaseAt off h)) (answers (ltb s (h .pages))) refl (λ e. go (ltb s (h .pages)) refl (simp passes at e))
+      (choose (ltb s (h .pages)) (sweptSpan s h) (setRoot phaseAt off h)) (answers (ltb s (h .pages))) refl (λ e. go (ltb s (h .pages)) refl (simp passes at e))
     where
       s : ℕ
       s = firstUnswept (h .pages) (h .table)
@@ -210,7 +236,7 @@ module _ {h : Heap} (F : Audited h) where
       answers true = omega arith
       answers false = omega arith
 
-      go : (b : Bool) → ltb s (h .pages) ≡ b → phase h ≡ sweep → Audited (choose b (swept s h) (setRoot phaseAt off h))
+      go : (b : Bool) → ltb s (h .pages) ≡ b → phase h ≡ sweep → Audited (choose b (sweptSpan s h) (setRoot phaseAt off h))
       go true e two = let x = unswept-found (h .pages) (h .table) (ltb-true s (h .pages) e) in swept-kept F s (x .0) (x .1) two
       go false e two = ended-kept F two (none-unswept F (ltb-false s (h .pages) e))
 

@@ -1,14 +1,13 @@
 -- No call's own refusal is 12: that number is the entry's alone.
 use Prim.Native.Nat.{ℕ}
-use mathlib.Core.Bool.{Bool, true, false, cond, _&&_}
+use mathlib.Core.Bool.{Bool, true, false, cond}
 use mathlib.Core.Logic.{_≢_}
 use native.Mathlib.Omega.{arith}
 use lib.Dec.{eqb}
-use Rattle.model.specs.Memory.{Heap, phase, mark, sweep}
-use Rattle.model.specs.Answers.{_given_, _orElse_, damaged, wrongPhase, badStack, badSlot, badSize, nilSlot, badField, sweepFirst, noRoom, unfinished}
-use Rattle.model.specs.Classes.{kindOf, pagesFor}
+use Rattle.model.specs.Memory.{Heap, mark}
+use Rattle.model.specs.Answers.{_given_, _orElse_, damaged, wrongPhase, badStack, badSlot, badSize, nilSlot, badField, noRoom, unfinished}
 use Rattle.model.specs.Checks.{phaseRefusal, openRefusal, closedRefusal, slotNumberRefusal, nilRefusal, slotRefusal, slotsRefusal, globalRefusal, pointerRefusal, numberRefusal}
-use Rattle.model.specs.Allocate.{roomFor, roomRefusal, allocateRefusal, someUnswept}
+use Rattle.model.specs.Allocate.{roomRefusal, allocateRefusal}
 use Rattle.model.specs.Cycle.{finishRefusal}
 
 -- a row of the table, and rows one after the other
@@ -60,18 +59,13 @@ pub field-not : (h : Heap) (s j f : ℕ) → numberRefusal h s j f ≢ damaged
 unfolding numberRefusal
 field-not h s j f = orElse-not (slot-not h s j) (orElse-not (nil-not h s j) (given-not badField _ (omega arith)))
 
-room-not : (h : Heap) (kind n : ℕ) → roomRefusal h kind n ≢ damaged
+pub room-not : (h : Heap) (kind n : ℕ) → roomRefusal h kind n ≢ damaged
 unfolding roomRefusal
-room-not h kind n = go (roomFor h kind n) (eqb (phase h) sweep && someUnswept (h .pages) (h .table))
-  where
-    go : (a b : Bool) → cond a 0 (cond b sweepFirst noRoom) ≢ damaged
-    go true b = omega arith
-    go false true = omega arith
-    go false false = omega arith
+room-not h kind n = given-not noRoom _ (omega arith)
 
 pub allocate-not : (h : Heap) (s i size p : ℕ) → allocateRefusal h s i size p ≢ damaged
 unfolding allocateRefusal
-allocate-not h s i size p = orElse-not (slot-not h s i) (orElse-not (given-not badSize _ (omega arith)) (room-not h (kindOf size p) (pagesFor size)))
+allocate-not h s i size p = orElse-not (slot-not h s i) (given-not badSize _ (omega arith))
 
 pub scan-not : (h : Heap) (s : ℕ) → (phaseRefusal h mark orElse openRefusal h s) ≢ damaged
 scan-not h s = orElse-not (phase-not h mark) (open-not h s)

@@ -1,4 +1,5 @@
--- A sweep step on the unswept span at page s: what the bits are afterwards, what of the span is left, and that it keeps the audit.
+-- The unswept span at page s swept, any one: what the bits are afterwards, what of the span is left, and that it keeps the audit. So do sweeps one
+-- after the other.
 use Prim.Native.Nat.{ℕ, _+_, _-_, _*_, _/_, _%_, _<_, _≤_}
 use mathlib.Core.List.{List}
 use mathlib.Core.Bool.{Bool, true, false, not, cond, _&&_, and-false, and-true, true≢false}
@@ -11,7 +12,9 @@ use borrow.Author.Tests.{lt-leb, le-leb, eq-eqb, eqb-true, eqb-false, not-false}
 use Rattle.model.specs.Memory.{Heap, phase, pageWords, unsweptFlag, sweep}
 use Rattle.model.specs.Bitmaps.{Part, allocated, marked, gray, pointer, is}
 use Rattle.model.specs.Spans.{owner, pageCount, kindEntry, isFree, elementWords, elements, elementStart, elementNumber, spanOf, elementOf, kept}
-use Rattle.model.specs.Cycle.{sweptBits, sweptTable, nothingLeft}
+use Rattle.model.specs.Cycle.{sweptBits, sweptTable, sweptSpan, nothingLeft}
+use Rattle.model.specs.Allocate.{lastOf}
+use Rattle.model.specs.Room.{Sweeps, none, more}
 use Rattle.model.proofs.Tests.{of-true, is-true, clash, and-iff, same-test}
 use Rattle.model.proofs.Bounded.{within, within-yes, within-true, all-at, some-fails}
 use Rattle.model.proofs.Bitmaps.{samePart}
@@ -19,7 +22,7 @@ use Rattle.model.specs.Facts.{IsSpan, Element, Audited, Bits, Phases, Reference
 use Rattle.model.proofs.Spans.{startIn, start-same, span-of, in-span, at-home, spans-apart, element-word, round, whole, fits}
 use Rattle.model.proofs.Effects.{swept-at, swept-length}
 use Rattle.model.proofs.Named.{kept-allocated, refers-over}
-use Rattle.keeps.proofs.SweptTable.{within-no, scaled, swept, inside, own, outside, gone, stays, same-out, same-left, page-out, swept-spans, table-length}
+use Rattle.keeps.proofs.SweptTable.{within-no, scaled, inside, own, outside, gone, stays, same-out, same-left, page-out, swept-spans, table-length}
 use Rattle.keeps.proofs.Tables.{Like, like, like-scan, like-element, like-in, like-first}
 
 module _ {h : Heap} (F : Audited h) (s : ℕ) (span : IsSpan (h .table) s) (unswept : unsweptFlag ≤ kindEntry (h .table) s) where
@@ -108,8 +111,8 @@ module _ {h : Heap} (F : Audited h) (s : ℕ) (span : IsSpan (h .table) s) (unsw
           far E (inr y) = inr (omega (arith, in-span (F .spans) w (E .lies .used)))
 
   -- a word of the span at r is swept if that is the span
-  q-is : (r x : ℕ) → IsSpan t r → pageWords * r ≤ x → x < pageWords * (r + pageCount t r) → q x ≡ eqb r s
-  q-is r x e v w = go (eqb r s) refl
+  pub swept-word : (r x : ℕ) → IsSpan t r → pageWords * r ≤ x → x < pageWords * (r + pageCount t r) → q x ≡ eqb r s
+  swept-word r x e v w = go (eqb r s) refl
     where
       far : ((r + pageCount t r ≤ s) ⊎ (s + pageCount t s ≤ r)) → (x < pageWords * s) ⊎ (pageWords * s + pageWords * n ≤ x)
       far (inl y) = inl (omega arith)
@@ -120,12 +123,12 @@ module _ {h : Heap} (F : Audited h) (s : ℕ) (span : IsSpan (h .table) s) (unsw
       go false p = within-no (pageWords * s) (pageWords * n) x (far (spans-apart (F .spans) r s e span (eqb-false r s p)))
 
   q-home : (x : ℕ) → 0 < owner t (x / pageWords) → q x ≡ eqb (spanOf t x) s
-  q-home x v = let i = in-span (F .spans) x v in q-is (spanOf t x) x (span-of (F .spans) x v) (i .0) (i .1)
+  q-home x v = let i = in-span (F .spans) x v in swept-word (spanOf t x) x (span-of (F .spans) x v) (i .0) (i .1)
 
   -- words between an element's first and v are swept if v is
   q-between : (v x : ℕ) → 0 < owner t (v / pageWords) → elementOf t v ≤ x → x ≤ v → q x ≡ q v
   q-between v x y c d = let i = in-span (F .spans) v y in
-      q-is (spanOf t v) x (span-of (F .spans) v y) (omega (arith, round (F .spans) v y)) (omega arith) ∙ sym (q-home v y)
+      swept-word (spanOf t v) x (span-of (F .spans) v y) (omega (arith, round (F .spans) v y)) (omega arith) ∙ sym (q-home v y)
 
   was-a : (v : ℕ) → T (cond (q v) (m v) (a v)) → T (a v)
   was-a v = go (q v)
@@ -263,7 +266,7 @@ module _ {h : Heap} (F : Audited h) (s : ℕ) (span : IsSpan (h .table) s) (unsw
   swept-refers : (x : ℕ) → Reference P t (h .bits) x → Reference P u b′ x
   swept-refers = refers-over P t u (h .bits) b′ (λ w k. rw (kept-is w) k)
 
-  swept-references : References (swept s h)
+  swept-references : References (sweptSpan s h)
   swept-references = record {
     root = λ x l. swept-refers (getD (h .roots) x 0) (F .references .root x l);
     content = λ v x kp. let f = was-p v x in swept-refers (getD (h .arena) v 0)
@@ -313,7 +316,7 @@ module _ {h : Heap} (F : Audited h) (s : ℕ) (span : IsSpan (h .table) s) (unsw
           let x = q-home (f .0) (F .bits .element (f .0) (f .1) .lies .used) ∙ ap (λ (i : ℕ). eqb i s) (f .2) ∙ p in
           there (f .0) (rw x (f .1)) (f .2)
 
-  pub swept-kept : phase h ≡ sweep → Audited (swept s h)
+  pub swept-kept : phase h ≡ sweep → Audited (sweptSpan s h)
   swept-kept two = record {
     sized = record {
       low = F .sized .low;
@@ -330,3 +333,20 @@ module _ {h : Heap} (F : Audited h) (s : ℕ) (span : IsSpan (h .table) s) (unsw
     states = F .states;
     occupied = swept-occupied;
   }
+
+-- "unswept only in phase sweep"
+pub sweeping : {h : Heap} → Audited h → (s : ℕ) → IsSpan (h .table) s → unsweptFlag ≤ kindEntry (h .table) s → phase h ≡ sweep
+sweeping {h} F s i u = go (eqb (phase h) sweep) refl
+  where
+    go : (b : Bool) → eqb (phase h) sweep ≡ b → phase h ≡ sweep
+    go true e = eqb-true (phase h) sweep e
+    go false e = absurd (omega (arith, F .phases .swept (eqb-false (phase h) sweep e) s i))
+
+-- so that any unswept span may be swept
+pub span-kept : {h : Heap} → Audited h → (s : ℕ) → IsSpan (h .table) s → unsweptFlag ≤ kindEntry (h .table) s → Audited (sweptSpan s h)
+span-kept F s i u = swept-kept F s i u (sweeping F s i u)
+
+pub sweeps-kept : {h : Heap} {gs : List Heap} → Sweeps h gs → Audited h → Audited (lastOf h gs)
+unfolding lastOf
+sweeps-kept none F = F
+sweeps-kept (more s i u x) F = sweeps-kept x (span-kept F s i u)

@@ -1,4 +1,4 @@
--- A sweep step on the span at page s, and the page table: the span's pages are free, or its flag is gone; every other page stays as it was. The
+-- The span at page s swept, and the page table: the span's pages are free, or its flag is gone; every other page stays as it was. The
 -- table then passes the audit.
 use Prim.Native.Nat.{ℕ, _+_, _-_, _*_, _/_, _%_, _<_, _≤_}
 use mathlib.Core.List.{List}
@@ -9,9 +9,9 @@ use native.Mathlib.Omega.{arith}
 use lib.ListN.{length}
 use lib.Dec.{eqb}
 use borrow.Author.Tests.{eq-eqb, ne-eqb, eqb-true, eqb-false}
-use Rattle.model.specs.Memory.{Heap, lent, pageWords, entryNumbers, unsweptFlag}
+use Rattle.model.specs.Memory.{Heap, pageWords, entryNumbers, unsweptFlag}
 use Rattle.model.specs.Spans.{owner, pageCount, kindEntry, putPage, putPages, spanPage, freePage}
-use Rattle.model.specs.Cycle.{sweptBits, sweptTable, nothingLeft}
+use Rattle.model.specs.Cycle.{sweptTable, nothingLeft}
 use Rattle.model.proofs.Bounded.{within, within-yes, within-low, within-high, within-true, within-false}
 use Rattle.model.proofs.Table.{page-length, owner-put, count-put, kind-put, pages-length, pages-owner, pages-count, pages-kind}
 use Rattle.model.specs.Facts.{Spans, IsSpan, GoodEntry, Audited}
@@ -34,10 +34,6 @@ scaled s n w = go (within s n (w / pageWords)) refl
     go : (b : Bool) → within s n (w / pageWords) ≡ b → within (pageWords * s) (pageWords * n) w ≡ b
     go true e = let f = within-true s n (w / pageWords) e in within-yes (pageWords * s) (pageWords * n) w (omega arith) (omega arith)
     go false e = outer (within-false s n (w / pageWords) e)
-
--- the heap after the span at page s was swept
-abbrev pub swept : ℕ → Heap → Heap
-swept s h = lent (h .pages) (h .arena) (sweptTable h s) (sweptBits h s) (h .roots)
 
 module _ {h : Heap} (F : Audited h) (s : ℕ) (span : IsSpan (h .table) s) where
   abbrev P : ℕ

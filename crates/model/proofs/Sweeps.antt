@@ -14,6 +14,7 @@ use Rattle.model.specs.Room.{Sweeps, none, more}
 use Rattle.model.proofs.Tests.{is-true}
 use Rattle.model.proofs.Bounded.{first-props}
 use Rattle.model.proofs.Rules.{tests}
+use Rattle.model.proofs.Checks.{Allocates}
 
 -- the span that is swept next is unswept
 pub next-unswept : (test : Heap → ℕ → Bool) (h : Heap) → nextUnswept test h < h .pages →
@@ -76,3 +77,13 @@ pub last-roots : {h : Heap} {gs : List Heap} → Sweeps h gs → lastOf h gs .ro
 unfolding lastOf
 last-roots none = refl
 last-roots (more s i u x) = last-roots x
+
+-- .. and so an allocation that could be made before them still can
+pub still-allocates : {h : Heap} {gs : List Heap} {s i size p : ℕ} → Sweeps h gs → Allocates h s i size p → Allocates (lastOf h gs) s i size p
+still-allocates S x = record {
+  stack = record { below = x .stack .below; isOpen = rw (last-roots S) (x .stack .isOpen) };
+  slot = x .slot;
+  some = x .some;
+  limit = x .limit;
+  pointers = x .pointers;
+}

@@ -79,6 +79,10 @@ unfoldable pub lastOf : Heap → List Heap → Heap
 lastOf h [] = h
 lastOf h (g ∷ gs) = lastOf g gs
 
+-- the heap that such sweeps leave
+abbrev pub sweptUntil : (Heap → Bool) → (Heap → ℕ → Bool) → Heap → Heap
+sweptUntil goal test h = lastOf h (sweepUntil goal test h)
+
 -- a span of the kind, by its start page; any span
 abbrev pub ofKind : ℕ → Heap → ℕ → Bool
 ofKind kind h s = kindAt (h .table) s == kind
