@@ -20,7 +20,7 @@ use Rattle.model.specs.Spans.{owner, pageCount, kindEntry, isFree, spanOf, kept
 use Rattle.model.specs.Answers.{_orElse_}
 use Rattle.model.specs.Checks.{phaseRefusal, openRefusal}
 use Rattle.model.specs.Shading.{shadeCount}
-use Rattle.model.specs.Cycle.{start, scanStack, scanGlobals, markStep, finish, sweepStep, firstGray, firstUnswept, scan, scanRecord, finishRefusal, freedCount, nothingLeft}
+use Rattle.model.specs.Cycle.{start, scanStack, scanGlobals, markStep, finish, sweepStep, firstGray, firstUnswept, scan, scanRecord, finishRefusal, freedCount, nothingLeft, sweptSpan}
 use Rattle.model.specs.declared.Call.the-variants.{Start, ScanGlobals, MarkStep, Finish, SweepStep, ScanStack}
 use Rattle.model.specs.Facts.{IsSpan, Audited, References}
 use Rattle.model.specs.declared.Answer.the-variants.{Done, Value, Swept}
@@ -28,7 +28,6 @@ use Rattle.model.proofs.Named.{reference-there}
 use Rattle.model.proofs.Facts.{not-unswept, swept-all, pointer-word}
 use Rattle.model.proofs.Checks.{passes, orElse-iff, OpenStack, open-passed, NothingGray, finish-passed}
 use Rattle.keeps.proofs.Roots.{started}
-use Rattle.keeps.proofs.SweptTable.{swept}
 use Rattle.keeps.proofs.Finished.{finished, unsweptTable, finish-spans, finish-bits}
 use Rattle.keeps.proofs.Calls.{gray-found, unswept-found, none-unswept, slot-refers, global-refers}
 use Rattle.history.proofs.Finished.{finish-view, finish-late, agreed-references}
@@ -144,7 +143,7 @@ module _ {h : Heap} (F : Audited h) where
   sweep-step-happens =
       by-refusal h SweepStep (phaseRefusal h sweep)
       (cond (ltb s (h .pages)) (Swept (s + 1) (freedCount h s) (cond (nothingLeft h s) (pageCount (h .table) s) 0)) (Swept 0 0 0))
-      (choose (ltb s (h .pages)) (swept s h) (setRoot phaseAt off h)) refl
+      (choose (ltb s (h .pages)) (sweptSpan s h) (setRoot phaseAt off h)) refl
       (λ e. go (simp passes at e) (ltb s (h .pages)) refl)
     where
       s : ℕ
@@ -152,7 +151,7 @@ module _ {h : Heap} (F : Audited h) where
 
       go : phase h ≡ sweep → (b : Bool) → ltb s (h .pages) ≡ b →
           Happens h SweepStep (cond b (Swept (s + 1) (freedCount h s) (cond (nothingLeft h s) (pageCount (h .table) s) 0)) (Swept 0 0 0))
-          (choose b (swept s h) (setRoot phaseAt off h))
+          (choose b (sweptSpan s h) (setRoot phaseAt off h))
       go two true e =
           let x = unswept-found (h .pages) (h .table) (ltb-true s (h .pages) e) in
           let z : eqb (s + 1) 0 ≡ false = ne-eqb (s + 1) 0 (omega arith) in

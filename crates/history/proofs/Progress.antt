@@ -16,24 +16,22 @@ use Rattle.marking.specs.Advance.{toMark, Advances}
 use Rattle.marking.proofs.Advance.{advancing}
 use Rattle.marking.specs.Advance
 use Rattle.marking.proofs.Freed.{Reached, reached-step}
-use Rattle.model.specs.Bounded.{countBelow, someBelow}
-use Rattle.model.specs.Memory.{Heap, phase, state, globalsState, words, stackCount, firstState, globalsStateAt, phaseAt, addressOf, unsweptFlag, grayState, mark, off, sweep, openState}
+use Rattle.model.specs.Bounded.{someBelow}
+use Rattle.model.specs.Memory.{Heap, phase, state, globalsState, words, stackCount, firstState, globalsStateAt, phaseAt, addressOf, grayState, mark, off, sweep, openState}
 use Rattle.model.specs.Answers.{_given_, _orElse_, unfinished}
-use Rattle.model.specs.Spans.{kindEntry, startsSpan, isUnswept}
 use Rattle.model.specs.Checks.{phaseRefusal, openRefusal}
 use Rattle.model.specs.Cycle.{sweptTable, start, scanStack, scanGlobals, markStep, finish, sweepStep, firstGray, firstUnswept, finishRefusal}
 use Rattle.model.specs.Calls.{run, Request, step, sweepsIn, sweepsOf, after}
 use Rattle.model.specs.declared.Call.the-variants.{Start, ScanGlobals, MarkStep, Finish, SweepStep, ScanStack}
 use Rattle.model.proofs.Tests.{of-true, is-true}
 use Rattle.model.proofs.Bounded.{some-iff}
-use Rattle.model.proofs.Rules.{tests}
-use Rattle.model.specs.Facts.{IsSpan, Audited}
+use Rattle.model.specs.Facts.{Audited}
 use Rattle.model.proofs.Checks.{passes, entry-passes}
 use Rattle.history.specs.Ledger.{event, onPages}
 use Rattle.history.specs.Demand.{eventOn}
 use Rattle.history.specs.Beyond.{Collects, startOf, finishOf, sweepOf}
 use Rattle.keeps.proofs.Roots.{root-other}
-use Rattle.keeps.proofs.SweptTable.{unswept-less}
+use Rattle.keeps.proofs.Unswept.{unsweptSpans, fewer}
 use Rattle.history.proofs.View.{view}
 use Rattle.keeps.proofs.Calls.{unswept-found}
 use Rattle.history.proofs.Stages.{StepOn, step-as}
@@ -168,39 +166,6 @@ finishing P (suc k) h {L} F N one l = now (eqb (finishRefusal (onPages P h)) 0) 
 
 -- THE SWEEP PHASE
 
-pub count-less : (n : ℕ) (p q : ℕ → Bool) → ((x : ℕ) → x < n → T (p x) → T (q x)) → countBelow n p ≤ countBelow n q
-unfolding countBelow
-count-less zero p q f = omega arith
-count-less (suc n) p q f = omega (arith, count-less n p q (λ x l. f x (omega arith)), one (p n) (q n) (f n (omega arith)))
-  where
-    one : (a b : Bool) → (T a → T b) → cond a 1 0 ≤ cond b 1 0
-    one true true g = omega arith
-    one true false g = absurd (g tt)
-    one false b g = omega arith
-
-pub count-fewer : (n : ℕ) (p q : ℕ → Bool) (s : ℕ) → s < n → T (q s) → T (not (p s)) → ((x : ℕ) → x < n → T (p x) → T (q x)) → countBelow n p < countBelow n q
-unfolding countBelow
-count-fewer zero p q s l a b f = absurd (omega arith)
-count-fewer (suc n) p q s l a b f = go (eqb s n) refl (λ k. count-fewer n p q s k a b (λ x m. f x (omega arith)))
-  where
-    one : (a b : Bool) → (T a → T b) → cond a 1 0 ≤ cond b 1 0
-    one true true g = omega arith
-    one true false g = absurd (g tt)
-    one false b g = omega arith
-
-    lone : (a b : Bool) → T b → T (not a) → (_≡_ {A = ℕ} (cond a 1 0) 0) × (_≡_ {A = ℕ} (cond b 1 0) 1)
-    lone true b t u = absurd u
-    lone false true t u = (refl, refl)
-    lone false false t u = absurd t
-
-    go : (c : Bool) → eqb s n ≡ c → (s < n → countBelow n p < countBelow n q) → countBelow n p + cond (p n) 1 0 < countBelow n q + cond (q n) 1 0
-    go true e ih = let z = eqb-true s n e in omega (arith, count-less n p q (λ x m. f x (omega arith)), lone (p n) (q n) (rw z at a) (rw z at b))
-    go false e ih = omega (arith, ih (omega (arith, eqb-false s n e)), one (p n) (q n) (f n (omega arith)))
-
--- how many spans are unswept
-abbrev unsweptSpans : Heap → ℕ
-unsweptSpans h = countBelow (h .pages) (λ s. startsSpan (h .table) s && isUnswept (h .table) s)
-
 -- a sweep step that finds an unswept span, and one that finds none
 sweep-event : {h : Heap} → Audited h → phase h ≡ sweep → firstUnswept (h .pages) (h .table) < h .pages →
     (event SweepStep (run h SweepStep .answer) ≡ Event.sweepStep) × (phase (run h SweepStep .heap) ≡ sweep) ×
@@ -222,18 +187,6 @@ end-event {h} F two l = rw (entry-passes h F, passed, le-ltb (firstUnswept (h .p
   where
     passed : phaseRefusal h sweep ≡ 0
     passed = simp passes two
-
--- one unswept span less
-fewer : {h : Heap} → Audited h → (s : ℕ) → s < h .pages → IsSpan (h .table) s → unsweptFlag ≤ kindEntry (h .table) s →
-    countBelow (h .pages) (λ x. startsSpan (sweptTable h s) x && isUnswept (sweptTable h s) x) < unsweptSpans h
-fewer {h} F s l i k =
-    count-fewer (h .pages) (λ x. startsSpan (sweptTable h s) x && isUnswept (sweptTable h s) x) (λ x. startsSpan (h .table) x && isUnswept (h .table) x) s l
-    (simp tests (i, k)) (no (startsSpan (sweptTable h s) s && isUnswept (sweptTable h s) s) (λ t. let y = simp tests at t in unswept-less F s i s (y .0) (y .1) .2 refl))
-    (λ x _ t. let y = simp tests at t in let z = unswept-less F s i x (y .0) (y .1) in simp tests (z .0, z .1))
-  where
-    no : (b : Bool) → (T b → ⊥) → T (not b)
-    no true f = absurd (f tt)
-    no false f = tt
 
 pub record Ending (P k : ℕ) (h : Heap) : Type 0 where
   pub steps : ℕ

@@ -14,7 +14,7 @@ use Rattle.model.specs.Bitmaps.{pointer}
 use Rattle.model.specs.Classes.{kindOf, pagesFor}
 use Rattle.model.specs.Checks.{recordAt, openRefusal, closedRefusal, slotRefusal, slotsRefusal, globalRefusal, pointerRefusal, numberRefusal}
 use Rattle.model.specs.Shading.{barrier}
-use Rattle.model.specs.Allocate.{allocate, newBits, newTable, newWord, allocateRefusal}
+use Rattle.model.specs.Allocate.{placeRecord, newBits, newTable, newWord, roomRefusal}
 use Rattle.model.specs.Records.{openStack, closeStack, copy, clear, load, store, put, get, loadGlobal, storeGlobal, emptied}
 use Rattle.model.specs.declared.Call.the-variants.{Open, Close, Clear, Copy, Get, LoadGlobal, StoreGlobal, Allocate, Load, Store, Put}
 use Rattle.model.specs.declared.Answer.the-variants.{Done, Value}
@@ -24,7 +24,7 @@ use Rattle.model.proofs.Spans.{whole}
 use Rattle.model.specs.Facts.{Audited}
 use Rattle.model.proofs.Named.{reference-there}
 use Rattle.model.proofs.Facts.{pointer-word}
-use Rattle.model.proofs.Checks.{passes, open-passed, slot-passed, slots-passed, global-passed, pointer-passed, number-passed, allocate-passed}
+use Rattle.model.proofs.Checks.{passes, open-passed, slot-passed, slots-passed, global-passed, pointer-passed, number-passed, Allocates, room-passed}
 use Rattle.history.specs.Ledger.{wordsOf}
 use Rattle.keeps.proofs.Roots.{root-at}
 use Rattle.keeps.proofs.Allotted.{allotted}
@@ -165,12 +165,13 @@ module _ {h : Heap} (F : Audited h) where
         said = ap Value (sym (see-word h (recordAt h s j + f))) ∙ ap (λ (w : ℕ). Value (view h .arena (w + f))) (sym z);
       })
 
-  pub allocate-happens : (s i size p : ℕ) → let o = allocate h s i size p in Happens h (Allocate s i size p) (o .answer) (o .heap)
-  unfolding allocate newBits
-  allocate-happens s i size p = by-refusal h (Allocate s i size p) (allocateRefusal h s i size p) (Value (addressOf w))
+  -- a record put in its place, on the heap that the sweeps for it have left
+  pub place-happens : (s i size p : ℕ) → Allocates h s i size p → let o = placeRecord h s i size p in Happens h (Allocate s i size p) (o .answer) (o .heap)
+  unfolding placeRecord newBits
+  place-happens s i size p x = by-refusal h (Allocate s i size p) (roomRefusal h (kindOf size p) (pagesFor size)) (Value (addressOf w))
       (allotted s i w (wordsOf size) p (withTable (newTable h (kindOf size p) (pagesFor size)) h)) refl (λ e.
-      let x = allocate-passed h s i size p e in let o = x .stack in
-      let C = choice F size p (takes size p (x .some) (x .limit) (x .pointers)) (x .room) in record {
+      let o = x .stack in
+      let C = choice F size p (takes size p (x .some) (x .limit) (x .pointers)) (room-passed h (kindOf size p) (pagesFor size) e) in record {
         step = allotted-step F C s i (o .below) (x .slot) (audit-view F) (see-open h s (o .below) (o .isOpen));
         said = allotted-now F s i w (wordsOf size) p (newTable h (kindOf size p) (pagesFor size)) (o .below) (x .slot);
       })

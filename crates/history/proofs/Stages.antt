@@ -1,7 +1,7 @@
 -- Stages as steps of the theory: a list of stages can be cut at each of them, what the buffers show of freeing from stage to stage is what the theory
 -- counts, and every cycle has a finish.
 use Prim.Native.Nat.{ℕ, _+_}
-use mathlib.Core.List.{List, [], _∷_, _++_}
+use mathlib.Core.List.{List, [], _∷_, _++_, map}
 use mathlib.Core.Logic.{_⊎_, inl, inr}
 use mathlib.Core.Path.{_≡_, refl, subst, ap, _∙_}
 use native.Mathlib.Omega.{arith}
@@ -15,10 +15,17 @@ use Rattle.marking.specs.Trace
 use Rattle.marking.specs.Claim
 use Rattle.marking.proofs.Phases.{start-marks, end-swept, marking-goes}
 use Rattle.model.specs.Memory.{Heap}
+use Rattle.model.specs.Allocate.{lastOf}
+use Rattle.model.specs.Facts.{Audited}
+use Rattle.model.specs.Room
+use Rattle.model.specs.Room.{Sweeps}
+use Rattle.keeps.proofs.Swept.{sweeping, span-kept}
 use Rattle.history.specs.Ledger.{onPages}
-use Rattle.history.specs.Demand.{Stage, eventsOf, endOf, frees, freesIn, freesSince, Cycle}
+use Rattle.history.specs.Demand.{Stage, sweepStage, eventsOf, endOf, frees, freesIn, freesSince, Cycle}
 use Rattle.history.specs.Beyond.{Parts}
 use Rattle.history.proofs.View.{view}
+use Rattle.history.proofs.ViewAllotted.{swept-step}
+use Rattle.history.proofs.Steps.{audit-view}
 
 -- the theory's step from one heap of P pages to another
 abbrev pub StepOn : ℕ → Heap → Event → Heap → Type 0
@@ -96,6 +103,17 @@ fed-last (q ∷ ss) s L = fed-last ss s (feed (q .event) L)
 -- no sweep leaves the heap as it was
 pub no-sweeps : {P : ℕ} {h g : Heap} → Along P h [] g → g ≡ h
 no-sweeps none = refl
+
+-- .. and only the buffers count, not the P that the heap has besides
+pub rebase : {P : ℕ} (h : Heap) {g : Heap} {ss : List Stage} → Along P (onPages P h) ss g → (g′ : Heap) × Along P h ss g′ × (onPages P g′ ≡ onPages P g)
+rebase h none = (h, none, refl)
+rebase h {g} (more s A) = (g, more s A, refl)
+
+-- sweeps one after the other, each a step
+pub sweeps-along : {h : Heap} {gs : List Heap} → Sweeps h gs → Audited h → Along (h .pages) h (map sweepStage gs) (lastOf h gs)
+unfolding lastOf
+sweeps-along Room.none F = none
+sweeps-along (Room.more s i u x) F = more (swept-step F s i u (audit-view F) (sweeping F s i u)) (sweeps-along x (span-kept F s i u))
 
 -- EVERY CYCLE HAS A FINISH. From a heap in the mark phase, stages of a cycle that lead to its end are a mark phase, a finish and a sweep phase
 record Split (ss : List Stage) : Type 0 where

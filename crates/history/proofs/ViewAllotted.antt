@@ -19,7 +19,7 @@ use Rattle.marking.specs.Trace
 use Rattle.model.specs.Memory.{Heap, withTable, addressOf, phase, stackCount, slotCount, firstGlobal, firstState, globalsStateAt, phaseAt, pageWords, unsweptFlag, sweep, mark}
 use Rattle.model.specs.Bitmaps.{allocated, marked, gray, pointer, is}
 use Rattle.model.specs.Spans.{owner, pageCount, kindEntry, isFree, elementWords, elementStart, spanOf, elementOf}
-use Rattle.model.specs.Cycle.{sweptTable}
+use Rattle.model.specs.Cycle.{sweptTable, sweptSpan}
 use Rattle.model.proofs.Tests.{of-true}
 use Rattle.model.proofs.Bounded.{within, within-yes, within-low, within-high, first-is, first-cong}
 use Rattle.model.specs.Facts.{IsSpan, Audited}
@@ -27,7 +27,6 @@ use Rattle.model.proofs.Effects.{swept-at}
 use Rattle.keeps.proofs.Tables.{Chosen, like-scan, like-words}
 use Rattle.keeps.proofs.Allotted.{allotted, allotted-a, allotted-m, allotted-g, allotted-p, allotted-word, here, clear, bare, ends}
 use Rattle.keeps.proofs.Allocated.{Choice}
-use Rattle.keeps.proofs.SweptTable.{swept}
 use Rattle.keeps.proofs.Swept.{late-swept, was-late, stay-like, stay-bits}
 use Rattle.history.proofs.View.{view, phaseOf, lateAt, scansAt, wordsAt, runFrom, elementsIn, colours-eq, heap-eq, marking-is, slot-set}
 
@@ -161,14 +160,14 @@ module _ {h₀ : Heap} {u : List ℕ} {w n p : ℕ} (F₀ : Audited h₀) (C : C
       alone v (inl x) = rw (word-at v, within-low w n v x)
       alone v (inr x) = rw (word-at v, within-high w n v x)
 
--- a sweep step on the unswept span at page s
+-- the unswept span at page s swept, any one
 module _ {h : Heap} (F : Audited h) (s : ℕ) (span : IsSpan (h .table) s) (unswept : unsweptFlag ≤ kindEntry (h .table) s) where
   -- the words that are swept
   abbrev q : ℕ → Bool
   q = within (pageWords * s) (pageWords * pageCount (h .table) s)
 
   abbrev then : Heap
-  then = swept s h
+  then = sweptSpan s h
 
   is-sweep : view then ≡ heapSweep q (elementsIn (sweptTable h s) (is pointer then)) (view h)
   unfolding view heapSweep lateAt
@@ -190,6 +189,6 @@ module _ {h : Heap} (F : Audited h) (s : ℕ) (span : IsSpan (h .table) s) (unsw
         like-words L,
       )
 
-  pub swept-step : LegalColours (view h) → phase h ≡ sweep → Step (view h) Event.sweepStep (view (swept s h))
+  pub swept-step : LegalColours (view h) → phase h ≡ sweep → Step (view h) Event.sweepStep (view (sweptSpan s h))
   unfolding view
   swept-step A two = rw is-sweep (Trace.Step.sweepStep q (elementsIn (sweptTable h s) (is pointer then)) A (rw two) was-late′ stay-alike)

@@ -79,7 +79,7 @@ none-unswept {h} F l s i =
     leb-false unsweptFlag (kindEntry (h .table) s) (rw (eq-eqb (owner (h .table) s) (s + 1) i) at b)
 
 -- a record put in its place, on the heap that the sweeps for it have left
-place-pages : (h : Heap) (s i size p : ℕ) → placeRecord h s i size p .heap .pages ≡ h .pages
+pub place-pages : (h : Heap) (s i size p : ℕ) → placeRecord h s i size p .heap .pages ≡ h .pages
 unfolding placeRecord
 place-pages h s i size p = refl
 
