@@ -27,7 +27,7 @@ fn nothing() -> Free
 
 // The lowest free element of a swept span of the kind, if one starts at page s. It does not depend on
 // the arena and the roots.
-fn free_in(p: usize, table: &[u32], bits: &[u64], kind: usize, s: Page) -> Free
+pub fn free_in(p: usize, table: &[u32], bits: &[u64], kind: usize, s: Page) -> Free
     requires { ⌜ Mapped p (now table) (now bits) × (s .0 < p) ⌝ }
     ensures { λ r. ⌜ ByTables (λ h. FreeIn h kind (s .0) r) p table bits ⌝ }
 {

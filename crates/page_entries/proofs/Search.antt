@@ -9,7 +9,6 @@ use mathlib.Core.List.{List}
 use Rattle.model.specs.Bounded.{firstBelow, someBelow}
 use Rattle.model.specs.Spans.{owner, kindEntry, startsSpan, isUnswept}
 use Rattle.model.specs.Memory.{unsweptFlag}
-use Rattle.model.specs.Allocate.{someUnswept}
 use Rattle.model.specs.Cycle.{firstUnswept}
 use Rattle.model.proofs.Tests.{is-true, of-true, same-test, and-iff, eqb-iff, ltb-iff, leb-iff, clash}
 use Rattle.model.proofs.Bounded.{First, first-is, first-props, some-iff}
@@ -33,10 +32,6 @@ some-first n t = same-test (ltb (firstBelow n t) n) (someBelow n t) found least
         go x true e = tt
         go x false e =
             clash (t (x .0)) (of-true _ (x .2)) (f .before (x .0) (omega (arith, x .1, ltb-false (firstBelow n t) n e, f .within)))
-
-pub some-unswept : (p : ℕ) (t : List ℕ) → ltb (firstUnswept p t) p ≡ someUnswept p t
-unfolding firstUnswept someUnswept
-some-unswept p t = some-first p _
 
 -- the first unswept span is one
 pub unswept-at : (p : ℕ) (t : List ℕ) → firstUnswept p t < p → (owner t (firstUnswept p t) ≡ firstUnswept p t + 1) × (unsweptFlag ≤ kindEntry t (firstUnswept p t))

@@ -120,7 +120,7 @@ fn nothing() -> Unswept
 }
 
 // The unswept span that starts at page s, if one does.
-fn unswept_at(table: &[u32], s: Page) -> Unswept
+pub fn unswept_at(table: &[u32], s: Page) -> Unswept
     requires { ⌜ HasEntry (now table) (s .0) ⌝ }
     ensures { λ r. ⌜ UnsweptAt (now (table .entry)) (s .0) r ⌝ }
 {
