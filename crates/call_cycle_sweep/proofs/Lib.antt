@@ -1,5 +1,1 @@
-pub mod Bounds
-pub mod Counts
-pub mod Pointers
 pub mod SweepStep
-pub mod Swept

@@ -6,11 +6,11 @@ use native.Mathlib.Omega.{arith}
 use denote.Ref.{now}
 use Rattle.model.specs.Memory.{lent}
 use Rattle.model.specs.Cycle.{sweptBits}
-use Rattle.call_cycle_sweep.proofs.Bounds.{SpanBounds, bounds}
-use Rattle.call_cycle_sweep.proofs.Swept.{SpanCounts, counted, swept-words, span-freed, span-kept}
+use Rattle.span_sweep.proofs.Bounds.{SpanBounds, bounds}
+use Rattle.span_sweep.proofs.Swept.{SpanCounts, counted, swept-words, span-freed, span-kept}
 use borrow.Author.Needs.{needs}
-use Rattle.call_cycle_sweep.proofs.sweep_span.Statement.{statement}
-use Rattle.call_cycle_sweep.proofs.sweep_span.Tie as tie
+use Rattle.span_sweep.proofs.sweep.Statement.{statement}
+use Rattle.span_sweep.proofs.sweep.Tie as tie
 
 -- the function's entry, from where the span's first block is known; that place, from where the bits are counted; that, from where the freed
 -- elements' pointer bits are cleared; and that, from where the marks are moved
@@ -82,9 +82,6 @@ count-range-requires-2 c κs =
 sub-freed : tie.Need-sub-freed
 sub-freed c = counts c .less
 
-add-start : tie.Need-add-start
-add-start c = omega (arith, span-bounds (start (known c)))
-
 clear-freed-requires : tie.Need-clear-freed-requires
 clear-freed-requires c κs = let s = start (known (c .before)) in (now (s .args .table), s .pre)
 
@@ -121,9 +118,9 @@ returns-2 c =
     let a = s .args in
     span-kept (a .p) (now (a .table)) (now (a .bits)) (a .span .start .0) (s .pre .sweepable) (counts (counting (cleared after))) (some .if1 .left) (made .make-swept .ensures) (swept after)
 
-pub sweep-span-spec : {M : Type 1} → statement M
-sweep-span-spec =
+pub sweep-spec : {M : Type 1} → statement M
+sweep-spec =
     tie.close
-    (tie.spec first-block-requires mul-marks mul-marks-2 add-marks mul-words count-range-requires count-range-requires-2 sub-freed add-start
+    (tie.spec first-block-requires mul-marks mul-marks-2 add-marks mul-words count-range-requires count-range-requires-2 sub-freed
     clear-freed-requires move-range-requires free-span-requires (λ c. search needs) (λ c. search needs) returns make-swept-requires
     (λ c. search needs) (λ c. search needs) returns-2)

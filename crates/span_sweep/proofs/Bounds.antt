@@ -11,7 +11,7 @@ use Rattle.model.proofs.Spans.{fits}
 use Rattle.model.proofs.Lent.{consistent-tables}
 use Rattle.page_table.specs.Span.{Reads}
 use Rattle.page_table.specs.declared.Span.{Span}
-use Rattle.call_cycle_sweep.specs.Needs.{Sweepable, SpanRead}
+use Rattle.span_sweep.specs.Needs.{Sweepable, SpanRead}
 
 pub record SpanBounds (p : ℕ) (t b : List ℕ) (s : ℕ) : Type 0 where
   pub tables : Tables p t b

@@ -24,7 +24,7 @@ use Rattle.bitmap_range.proofs.Runs.{run-append, writes-cong}
 use Rattle.bitmap_range.proofs.Bits.{Fit, bits-ext, bits-at, bits-length, bits-fit}
 use Rattle.bitmap_range.proofs.Parts.{place-from, part-as-bits, part-constant}
 use Rattle.bitmap_search.specs.Freed.{isFreed, nextFreed}
-use Rattle.call_cycle_sweep.specs.Needs.{Sweepable, SpanRead, clearedBits}
+use Rattle.span_sweep.specs.Needs.{Sweepable, SpanRead, clearedBits}
 
 -- a run of bits of a part that are as they were
 pub run-same : (n : ℕ) (q : Part) (w k : ℕ) (g : ℕ → Bool) (b : List ℕ) → w + k ≤ n → Four n b → Fit b → ((x : ℕ) → w ≤ x → x < w + k → g x ≡ bitIn n q b x) →

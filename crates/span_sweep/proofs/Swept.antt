@@ -13,15 +13,14 @@ use Rattle.model.specs.Memory.{lent, pageWords, wordBits, pageBlocks, markedPar
 use Rattle.model.specs.Bitmaps.{Part, bitAt, withBit, allocated, marked}
 use Rattle.model.specs.Spans.{pageCount, elementWords, elements, elementStart, elementNumber, kindAt, putPage, putPages, spanPage, freePage}
 use Rattle.model.specs.Cycle.{freedCount, nothingLeft, sweptTable, sweptBits}
-use Rattle.model.specs.declared.Answer.the-variants.{Swept}
 use Rattle.model.proofs.Tests.{is-true}
 use Rattle.model.proofs.Spans.{startIn, start-is, at-home, fits}
 use Rattle.model.specs.Facts.{bit}
 use Rattle.bitmap_range.proofs.Parts.{swept-parts, part-count}
-use Rattle.call_cycle_sweep.specs.Needs.{Sweepable, SweepsSpan, clearedBits}
-use Rattle.call_cycle_sweep.proofs.Counts.{count-elements, count-split, none-counted}
-use Rattle.call_cycle_sweep.proofs.Bounds.{bounds}
-use Rattle.call_cycle_sweep.proofs.Pointers.{stays}
+use Rattle.span_sweep.specs.Needs.{Sweepable, SweepsSpan, clearedBits}
+use Rattle.span_sweep.proofs.Counts.{count-elements, count-split, none-counted}
+use Rattle.span_sweep.proofs.Bounds.{bounds}
+use Rattle.span_sweep.proofs.Pointers.{stays}
 
 module _ (p : ℕ) (t b : List ℕ) (s : ℕ) (S : Sweepable p t b s) where
   -- pointer bits of freed elements went, then words of marks were moved, from word `marks` on to word `first` on
@@ -100,16 +99,16 @@ module _ (p : ℕ) (t b : List ℕ) (s : ℕ) (S : Sweepable p t b s) where
 
   -- nothing is left: the pages become free
   pub span-freed : {all kept n : ℕ} {table bits : List ℕ} → SpanCounts all kept → kept ≡ 0 → n ≡ pageCount t s → table ≡ putPages s n (λ g. freePage) t →
-      ((a roots : List ℕ) → bits ≡ sweptBits (lent p a t b roots) s) → (a roots : List ℕ) → SweepsSpan (lent p a t b roots) s (Swept (s + 1) (all - kept) n) table bits
+      ((a roots : List ℕ) → bits ≡ sweptBits (lent p a t b roots) s) → (a roots : List ℕ) → SweepsSpan (lent p a t b roots) s (record { freed = all - kept; returned = n }) table bits
   unfolding sweptTable
   span-freed {all} {kept} {n} {table} {bits} C e i f g a roots =
       let z : nothingLeft (lent p a t b roots) s ≡ true = C .left a roots ∙ eq-eqb kept 0 e in
-      record { answer = rw (z, ← C .freed a roots, i); table = rw z (f ∙ rw i); bits = g a roots }
+      record { freed = C .freed a roots; returned = rw z i; table = rw z (f ∙ rw i); bits = g a roots }
 
   -- something is left: the span becomes swept
   pub span-kept : {all kept : ℕ} {table bits : List ℕ} → SpanCounts all kept → kept ≢ 0 → table ≡ putPage s (spanPage s (pageCount t s) (kindAt t s) s) t →
-      ((a roots : List ℕ) → bits ≡ sweptBits (lent p a t b roots) s) → (a roots : List ℕ) → SweepsSpan (lent p a t b roots) s (Swept (s + 1) (all - kept) 0) table bits
+      ((a roots : List ℕ) → bits ≡ sweptBits (lent p a t b roots) s) → (a roots : List ℕ) → SweepsSpan (lent p a t b roots) s (record { freed = all - kept; returned = 0 }) table bits
   unfolding sweptTable
   span-kept {all} {kept} {table} {bits} C d f g a roots =
       let z : nothingLeft (lent p a t b roots) s ≡ false = C .left a roots ∙ ne-eqb kept 0 d in
-      record { answer = rw (z, ← C .freed a roots); table = rw z f; bits = g a roots }
+      record { freed = C .freed a roots; returned = rw z; table = rw z f; bits = g a roots }

@@ -6,11 +6,11 @@ use native.Mathlib.Omega.{arith}
 use borrow.Author.Tests.{not-true}
 use denote.Ref.{now}
 use Rattle.bitmap_range.proofs.Bits.{Fit}
-use Rattle.call_cycle_sweep.specs.Needs.{SpanRead}
-use Rattle.call_cycle_sweep.proofs.Bounds.{SpanBounds, bounds}
-use Rattle.call_cycle_sweep.proofs.Pointers.{Cleared, Measured, Turn, measured, noscan-same, loop-begun, loop-turn, loop-next, loop-end}
-use Rattle.call_cycle_sweep.proofs.clear_freed.Statement.{statement}
-use Rattle.call_cycle_sweep.proofs.clear_freed.Tie as tie
+use Rattle.span_sweep.specs.Needs.{SpanRead}
+use Rattle.span_sweep.proofs.Bounds.{SpanBounds, bounds}
+use Rattle.span_sweep.proofs.Pointers.{Cleared, Measured, Turn, measured, noscan-same, loop-begun, loop-turn, loop-next, loop-end}
+use Rattle.span_sweep.proofs.clear_freed.Statement.{statement}
+use Rattle.span_sweep.proofs.clear_freed.Tie as tie
 
 abbrev Inv-loop : tie.InvT-loop
 Inv-loop p bits₀ scan start n size pointers after to end at₀ bits at = (t : List ℕ) → Measured p t bits₀ start size end → Cleared p t bits₀ start at bits

@@ -1,0 +1,4 @@
+pub mod Bounds
+pub mod Counts
+pub mod Pointers
+pub mod Swept
