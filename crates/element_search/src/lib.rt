@@ -1,5 +1,5 @@
-// The search for a free element: the lowest of the lowest swept span of a kind that has one, by the
-// page table and the bitmaps.
+// The search for a free element: the lowest of one span, if it is a swept one of a kind, and the lowest
+// of the lowest such span that has one. Both go by the page table and the bitmaps.
 ghost use mathlib.Core.Bool.{false};
 ghost use mathlib.Core.Path.{_≡_};
 ghost use Prim.Native.Nat.{_<_};

@@ -1,7 +1,7 @@
 // The entries of a span, written: a new span, a freed one, a changed kind. And the unswept flag of
-// a span's kind: set on every span, taken off one, and the first span that has it. Crate page_table
-// says what the numbers of an entry are, and reads them; this is a crate apart from it for the gate's
-// time: each wrong program proves its whole crate again.
+// a span's kind: set on every span, taken off one, the span at a page if it has it, and the first that
+// has it. Crate page_table says what the numbers of an entry are, and reads them; this is a crate apart
+// from it for the gate's time: each wrong program proves its whole crate again.
 ghost use mathlib.Core.Path.{_≡_};
 ghost use mathlib.Core.Bool.{false};
 ghost use Rattle.model.specs.Spans.{putPage, putPages, spanPage, freePage};
