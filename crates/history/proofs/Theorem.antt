@@ -35,6 +35,7 @@ use Rattle.model.proofs.Bitmaps.{bit-inside}
 use Rattle.model.proofs.Spans.{whole}
 use Rattle.model.proofs.Audit.{sized}
 use Rattle.keeps.proofs.Fresh.{fresh-kept}
+use Rattle.keeps.proofs.Room.{no-room}
 use Rattle.history.specs.Ledger.{onPages}
 use Rattle.history.specs.Demand.{setupOf, eventOn, Stage, sweepStage, stages, eventsOf, endOf, fed, ledger, Matches, FreePage, Pages, subject, Answered, freesIn, freed, Cycle, Demand}
 use Rattle.history.specs.Beyond.{Marking, Whole, markingEvents, ledgerAtStart, ledgerAtFinish, heapAtFinish, isAllocated, isMarked, allocatedIn, Beyond, AfterSetup}
@@ -42,7 +43,8 @@ use Rattle.history.proofs.Fresh.{fresh-view}
 use Rattle.history.proofs.View.{view, wordsAt}
 use Rattle.history.proofs.Steps.{Said}
 use Rattle.history.proofs.Stages.{Along, StepOn, step-as, join, at, steps, since, to-end, fed-last, parts}
-use Rattle.history.proofs.Runs.{Made, made}
+use Rattle.history.proofs.Runs.{Made, made, inside, calm}
+use Rattle.history.proofs.Refused.{refused-spares}
 use Rattle.history.proofs.Lists.{Course, course, stages-last}
 use Rattle.history.proofs.Progress.{begin-event, finishing, ending}
 
@@ -220,6 +222,10 @@ module _ (P : ℕ) (h : Heap) (F : Audited (onPages P h)) (Fr : Fresh (view (onP
   pub beyond : (rs : List Request) → Beyond P h rs
   beyond rs = let R = run-of rs in record {
     sound = λ p. next (p .before) (p .here) .sound;
+    spared = λ p. refused-spares P (onPages (p .here .pages) (after h (p .before))) (p .here .call);
+    room = no-room (R .audited);
+    inside = λ p. inside P (after h (p .before)) (run-of (p .before) .audited) (p .here);
+    outside = λ p d. let F = run-of (p .before) .audited in calm F (inside P (after h (p .before)) F (p .here)) d;
     parts = parts (R .along);
     work = work-at (R .along);
     marked = marked-at (R .along);

@@ -5,7 +5,8 @@
 --
 -- Answers go from call to call. The ledger, what is freed, and cycles go from stage to stage: the stages of a call are the sweeps inside it
 -- (`sweepsIn` of the model's Calls) and then the call itself, so that a record counts as freed also where the same call gives its element out again.
--- Each call has one stage as yet, since none sweeps inside.
+-- [2] "In demand 3 these sweeps count as the cycle's own, also where the same call gives the freed element out again.": an allocation's sweeps come
+-- before its birth.
 --
 -- To be read before it: Calls of the model, Effect, Event and Ledger of the crate marking, and Ledger here.
 use Prim.Native.Nat.{ℕ, _+_, _≤_, _<_}
