@@ -146,7 +146,7 @@ module _ {h : Heap} (F : Audited h) (s : ℕ) (span : IsSpan (h .table) s) (unsw
   runs-stay m e = rw (runs-same (h .pages) m t u (λ x. stays F s span e x .0))
 
 -- an unswept span that passes a test, as facts and back
-as-facts : (t : List ℕ) (x : ℕ) (c : Bool) → T (startsSpan t x && isUnswept t x && c) → IsSpan t x × (unsweptFlag ≤ kindEntry t x) × T c
+pub as-facts : (t : List ℕ) (x : ℕ) (c : Bool) → T (startsSpan t x && isUnswept t x && c) → IsSpan t x × (unsweptFlag ≤ kindEntry t x) × T c
 as-facts t x c z = let w = simp tests at z in (w .0 .0, w .0 .1, w .1)
 
 pub as-test : (t : List ℕ) (x : ℕ) (c : Bool) → IsSpan t x → unsweptFlag ≤ kindEntry t x → T c → T (startsSpan t x && isUnswept t x && c)
