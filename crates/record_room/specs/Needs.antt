@@ -1,47 +1,60 @@
--- What the search for room asks and gives.
+-- What the search for room gives: the place of a record, and the page table and the bitmaps that the sweeps for it leave, whatever the arena.
 use Prim.Native.Nat.{ℕ}
-use mathlib.Core.Bool.{Bool, not, _&&_}
+use mathlib.Core.Bool.{not}
 use mathlib.Core.List.{List}
 use mathlib.Core.Path.{_≡_}
-use lib.ListN.{getD}
 use denote.Ref.{now}
-use Rattle.model.specs.Bounded.{_==_, _<?_, if_then_else_}
-use Rattle.model.specs.Memory.{Heap, sweep, phaseAt}
-use Rattle.model.specs.Answers.{sweepFirst, noRoom}
+use Rattle.model.specs.Memory.{Heap, lent}
+use Rattle.model.specs.Answers.{_orElse_}
 use Rattle.model.specs.Classes.{kindOf, pagesFor}
-use Rattle.model.specs.Allocate.{someUnswept, spanWithRoom, newWord, roomRefusal, allocateRefusal}
-use Rattle.model.specs.Lent.{Roots, Mapped}
-use Rattle.model.specs.Contracts.{Borrowed, Buffer, foundWith}
+use Rattle.model.specs.Allocate.{elementFree, newWord, roomRefusal, lastOf, roomSweeps, allocateRefusal, allocateSweeps}
+use Rattle.model.specs.Facts.{Audited}
+use Rattle.model.specs.Contracts.{Buffer, foundWith}
 use Rattle.classes.specs.Shape.{Shaped}
 use Rattle.classes.specs.declared.Shape.{Shape}
+use Rattle.element_search.specs.declared.Free.{Free}
+use Rattle.units.specs.declared.Page.{Page}
+use Rattle.room_sweeps.specs.Needs.{KindDone, PagesDone}
 use Rattle.record_room.specs.declared.RecordPlace.{RecordPlace}
 
--- the refusal where there is no room, by the page table and the roots
-abbrev pub noRoomRefusal : ℕ → List ℕ → List ℕ → ℕ
-noRoomRefusal p t r = if getD r phaseAt 0 == sweep && someUnswept p t then sweepFirst else noRoom
+-- the heap that a function leaves, with whatever arena
+abbrev pub leftWith : List ℕ → ℕ → Buffer → Buffer → Buffer → Heap
+leftWith a p table bits roots = lent p a (now (table .exit)) (now (bits .exit)) (now (roots .exit))
 
--- what the search found for a kind whose new span has n pages: the refusal that is due; and without one the record's first word w, and whether its
--- span is to be made
-pub record Found (h : Heap) (due kind n : ℕ) (refusal w : ℕ) (made : Bool) : Type 0 where
-  pub number : refusal ≡ due
-  pub word : refusal ≡ 0 → w ≡ newWord h kind n
-  pub fresh : refusal ≡ 0 → made ≡ not (spanWithRoom h kind <? h .pages)
+-- a free element of the kind, and a run of n pages, after the sweeps for it
+abbrev pub FindsElement : ℕ → ℕ → Buffer → Buffer → Buffer → Free → Type 0
+FindsElement kind p table bits roots r =
+    (a : List ℕ) → let h = foundWith a p table bits roots in Audited h → KindDone kind h (leftWith a p table bits roots) r
 
--- a page table and bitmaps as the audit has them, and roots
-abbrev pub Searchable : ℕ → Borrowed → Borrowed → Borrowed → Type 0
-Searchable p table bits roots = Mapped p (now table) (now bits) × Roots (now roots)
+abbrev pub FindsPages : ℕ → ℕ → Buffer → Buffer → Buffer → Page → Type 0
+FindsPages n p table bits roots r =
+    (a : List ℕ) → let h = foundWith a p table bits roots in Audited h → PagesDone n h (leftWith a p table bits roots) (r .0)
 
--- the place that a search gives, whatever the arena, where `due` is the refusal
-abbrev pub PlaceBy : (Heap → ℕ) → ℕ → ℕ → ℕ → Buffer → Buffer → Buffer → RecordPlace → Type 0
-PlaceBy due kind n p table bits roots r =
-    (a : List ℕ) → let h = foundWith a p table bits roots in Found h (due h) kind n (r .refusal) (r .word .0) (r .fresh)
+-- what the search has found on the heap g, swept for a record of this kind, whose new span has n pages: the refusal that is due; without one the
+-- record's first word, and whether its span is to be made; and the page table and the bitmaps are those of g
+pub record Found (g : Heap) (due kind n : ℕ) (r : RecordPlace) (t b : List ℕ) : Type 0 where
+  pub number : r .refusal ≡ due
+  pub word : r .refusal ≡ 0 → r .word .0 ≡ newWord g kind n
+  pub fresh : r .refusal ≡ 0 → r .fresh ≡ not (elementFree kind g)
+  pub table : t ≡ g .table
+  pub bits : b ≡ g .bits
 
--- that of a record of a shape
+-- the place of a record of a shape
+pub record PlaceOf (shape : Shape) (h h′ : Heap) (r : RecordPlace) : Type 0 where
+  pub found : let g = lastOf h (roomSweeps (shape .kind) (shape .pages) h) in
+      Found g (roomRefusal g (shape .kind) (shape .pages)) (shape .kind) (shape .pages) r (h′ .table) (h′ .bits)
+  pub same : r .shape ≡ shape
+
 abbrev pub FindsPlace : Shape → ℕ → Buffer → Buffer → Buffer → RecordPlace → Type 0
 FindsPlace shape p table bits roots r =
-    PlaceBy (λ h. roomRefusal h (shape .kind) (shape .pages)) (shape .kind) (shape .pages) p table bits roots r × (r .shape ≡ shape)
+    (a : List ℕ) → let h = foundWith a p table bits roots in Audited h → PlaceOf shape h (leftWith a p table bits roots) r
 
 -- that of a record of this size with q pointer words, for slot i of stack s, and its shape
+pub record PlaceFor (s i size q : ℕ) (h h′ : Heap) (r : RecordPlace) : Type 0 where
+  pub found : let g = lastOf h (allocateSweeps h s i size q) in
+      Found g (allocateRefusal h s i size q orElse roomRefusal g (kindOf size q) (pagesFor size)) (kindOf size q) (pagesFor size) r (h′ .table) (h′ .bits)
+  pub shaped : Shaped size q (r .shape)
+
 abbrev pub ChoosesPlace : ℕ → ℕ → ℕ → ℕ → ℕ → Buffer → Buffer → Buffer → RecordPlace → Type 0
 ChoosesPlace s i size q p table bits roots r =
-    PlaceBy (λ h. allocateRefusal h s i size q) (kindOf size q) (pagesFor size) p table bits roots r × Shaped size q (r .shape)
+    (a : List ℕ) → let h = foundWith a p table bits roots in Audited h → PlaceFor s i size q h (leftWith a p table bits roots) r

@@ -1,11 +1,13 @@
-// Where a record goes: the refusals of an allocation, and the search for an element. It reads the page
-// table, the bitmaps and the roots, and changes nothing.
+// Where a record goes: the refusals of an allocation, and the search for an element or for pages, with
+// the sweeps that make room. The arena and the roots are left alone.
 ghost use mathlib.Core.Path.{_≡_};
 ghost use Prim.Native.Nat.{_<_};
 ghost use Rattle.model.specs.Checks.{sizeRefusal};
-ghost use Rattle.model.specs.Lent.{Roots, PageTable};
-ghost use Rattle.record_room.specs.Needs.{noRoomRefusal, Searchable, FindsPlace, ChoosesPlace};
+ghost use Rattle.model.specs.Contracts.{AuditedTables};
+ghost use Rattle.record_room.specs.Needs.{FindsElement, FindsPages, FindsPlace, ChoosesPlace};
 use classes::Shape;
+use element_search::Free;
+use units::Page;
 use units::Word;
 
 // Where a record goes: the refusal, or 0 and the record's first word; `fresh` says that its span is
@@ -33,20 +35,6 @@ fn size_refusal(size: u64, pointers: u64) -> u64
     0
 }
 
-// The refusal where there is no room: a sweep may make some while a span is unswept.
-fn no_room(p: usize, table: &[u32], roots: &[u64]) -> u64
-    requires { ⌜ PageTable p (now table) × Roots (now roots) ⌝ }
-    ensures { λ r. ⌜ r ≡ noRoomRefusal p (now (table .entry)) (now (roots .entry)) ⌝ }
-{
-    if roots[units::PHASE] != units::SWEEP {
-        return units::NO_ROOM;
-    }
-    if page_entries::first_unswept(p, table).found {
-        return units::SWEEP_FIRST;
-    }
-    units::NO_ROOM
-}
-
 // A place where there is none.
 fn refused(number: u64, shape: Shape) -> RecordPlace
     ensures { λ r. ⌜ (r .refusal ≡ number) × (r .shape ≡ shape) ⌝ }
@@ -59,13 +47,45 @@ fn refused(number: u64, shape: Shape) -> RecordPlace
     }
 }
 
-// The place of a record of this shape: the lowest free element of the lowest swept span of its kind
-// that has one, else the first word of the best run of pages.
-fn find(p: usize, table: &[u32], bits: &[u64], roots: &[u64], shape: Shape) -> RecordPlace
-    requires { ⌜ Searchable p table bits roots × (0 < shape .pages) ⌝ }
+// A free element of the kind: of a swept span, else of one that is swept for it in the sweep phase.
+// In the other phases no span is unswept.
+fn element_for(p: usize, table: &mut [u32], bits: &mut [u64], roots: &[u64], kind: usize) -> Free
+    requires { ⌜ AuditedTables p table bits roots ⌝ }
+    ensures { λ r. ⌜ FindsElement kind p table bits roots r ⌝ }
+{
+    let free = element_search::free_of(p, table, bits, kind);
+    if free.found {
+        return free;
+    }
+    if roots[units::PHASE] != units::SWEEP {
+        return free;
+    }
+    room_sweeps::sweep_kind(p, table, bits, kind)
+}
+
+// The first page of the best run of n pages, or p: of the pages that are free, else of those that
+// spans return that are swept for it in the sweep phase.
+fn pages_for(p: usize, table: &mut [u32], bits: &mut [u64], roots: &[u64], n: usize) -> Page
+    requires { ⌜ AuditedTables p table bits roots × (0 < n) ⌝ }
+    ensures { λ r. ⌜ FindsPages n p table bits roots r ⌝ }
+{
+    let page = page_runs::best_run(p, table, n);
+    if page.0 < p {
+        return page;
+    }
+    if roots[units::PHASE] != units::SWEEP {
+        return page;
+    }
+    room_sweeps::sweep_pages(p, table, bits, n)
+}
+
+// The place of a record of this shape, after the sweeps that make room for it: the lowest free element
+// of the lowest swept span of its kind that has one, else the first word of the best run of pages.
+fn find(p: usize, table: &mut [u32], bits: &mut [u64], roots: &[u64], shape: Shape) -> RecordPlace
+    requires { ⌜ AuditedTables p table bits roots × (0 < shape .pages) ⌝ }
     ensures { λ r. ⌜ FindsPlace shape p table bits roots r ⌝ }
 {
-    let free = element_search::free_of(p, table, bits, shape.kind as usize);
+    let free = element_for(p, table, bits, roots, shape.kind as usize);
     if free.found {
         let word = free.word;
         return RecordPlace {
@@ -75,7 +95,7 @@ fn find(p: usize, table: &[u32], bits: &[u64], roots: &[u64], shape: Shape) -> R
             shape: shape,
         };
     }
-    let page = page_runs::best_run(p, table, shape.pages);
+    let page = pages_for(p, table, bits, roots, shape.pages);
     if page.0 < p {
         return RecordPlace {
             refusal: 0,
@@ -84,21 +104,22 @@ fn find(p: usize, table: &[u32], bits: &[u64], roots: &[u64], shape: Shape) -> R
             shape: shape,
         };
     }
-    refused(no_room(p, table, roots), shape)
+    refused(units::NO_ROOM, shape)
 }
 
-// The place of a record for slot i of stack s, by its size and its number of pointer words.
+// The place of a record for slot i of stack s, by its size and its number of pointer words. What is
+// refused of these numbers is tested before any sweep.
 pub fn choose(
     p: usize,
-    table: &[u32],
-    bits: &[u64],
+    table: &mut [u32],
+    bits: &mut [u64],
     roots: &[u64],
     s: u64,
     i: u64,
     size: u64,
     pointers: u64,
 ) -> RecordPlace
-    requires { ⌜ Searchable p table bits roots ⌝ }
+    requires { ⌜ AuditedTables p table bits roots ⌝ }
     ensures { λ r. ⌜ ChoosesPlace s i size pointers p table bits roots r ⌝ }
 {
     let shape = classes::shape_of(size, pointers);

@@ -1,48 +1,79 @@
 -- `record_room::find` meets its contract. Each way out has its law in proofs/Room.antt.
 use Prim.Native.Nat.{ℕ}
 use mathlib.Core.List.{List}
-use mathlib.Core.Path.{refl, _∙_}
+use mathlib.Core.Path.{_≡_, refl, _∙_}
+use native.Mathlib.Omega.{arith}
 use denote.Ref.{now}
 use borrow.Author.Needs.{needs}
 use Rattle.model.specs.Memory.{Heap, lent}
-use Rattle.record_room.proofs.Room.{found-old, found-new, found-none}
+use Rattle.model.specs.Facts.{Audited}
+use Rattle.record_room.proofs.Room.{element-kept, found-old, found-new, found-none}
 use Rattle.record_room.proofs.find.Statement.{statement}
 use Rattle.record_room.proofs.find.Tie as tie
 
--- places: the function's entry, from where a free element was looked for; and that place, from where a run of pages was
-abbrev start : tie.After-free-of → tie.Start
-start c = c .before .before .before .before .before
+-- places: the function's entry, from where an element was looked for; that place, from where it is known whether one was found, and from where pages
+-- were looked for; and that one, from where it is known whether a run fits
+abbrev start : tie.After-element-for → tie.Start
+start c = c .before .before .before .before .before .before .before
 
-abbrev looked : tie.After-best-run → tie.After-free-of
-looked c = c .before .before
+abbrev looked : tie.After-slice-known4 → tie.After-element-for
+looked c = c .before .before .before .before
 
-abbrev heap : tie.Start → List ℕ → Heap
-heap s a = lent (s .args .p) a (now (s .args .table)) (now (s .args .bits)) (now (s .args .roots))
+abbrev none : tie.After-pages-for → tie.Else1
+none c = c .before .before .before
+
+abbrev paged : tie.After-struct-known2 → tie.After-pages-for
+paged c = c .before .before .before .before .before
+
+element-for-requires : tie.Need-element-for-requires
+element-for-requires c κs = c .before .before .before .before .before .before .pre .0
 
 returns : tie.Need-returns
-returns c =
-    let t = c .before in
-    let d = t .before in
+returns c a F =
+    let e = c .before in
+    let d = looked (e .before) in
     let s = start d in
-    (λ a. found-old (heap s a) (s .args .shape .kind) (s .args .shape .pages) (d .free-of .result) (d .free-of .ensures a (now (s .args .roots))) (t .if1 .taken), refl)
+    record {
+      found = found-old F (s .args .shape .kind) (s .args .shape .pages) (d .element-for .ensures a F) (e .if1 .taken) refl refl refl;
+      same = refl;
+    }
+
+pages-for-requires : tie.Need-pages-for-requires
+pages-for-requires c κs =
+    let d = looked (c .before .before .before) in
+    let s = start d in
+    ((s .pre .0 .0, element-kept (s .args .shape .kind) (s .pre .0 .1) (d .element-for .ensures (s .pre .0 .0) (s .pre .0 .1))), s .pre .1)
 
 returns-2 : tie.Need-returns-2
-returns-2 c =
-    let b = c .before .before .before in
-    let d = looked b in
+returns-2 c a F =
+    let f = c .before in
+    let w = paged (f .before) in
+    let e = none w in
+    let d = looked (e .before) in
     let s = start d in
-    (λ a. found-new (heap s a) (s .args .shape .kind) (s .args .shape .pages) (d .free-of .result) (d .free-of .ensures a (now (s .args .roots))) (b .best-run .ensures) (b .before .if1 .left) (c .before .if2 .taken) (c .first-word .ensures), refl)
+    let D = d .element-for .ensures a F in
+    record {
+      found = found-new F (s .args .shape .kind) (s .args .shape .pages) D (e .if1 .left) (w .pages-for .ensures a (element-kept (s .args .shape .kind) F D))
+          (f .if2 .taken) refl (c .first-word .ensures) refl;
+      same = refl;
+    }
 
 returns-3 : tie.Need-returns-3
-returns-3 c =
-    let e = c .before .before in
-    let b = e .before .before in
-    let d = looked b in
+returns-3 c a F =
+    let f = c .before in
+    let w = paged (f .before) in
+    let e = none w in
+    let d = looked (e .before) in
     let s = start d in
-    (λ a. found-none (heap s a) (s .args .shape .kind) (s .args .shape .pages) (d .free-of .result) (d .free-of .ensures a (now (s .args .roots))) (b .best-run .ensures) (b .before .if1 .left) (e .if2 .left) (c .refused .ensures .0 ∙ c .before .no-room .ensures), c .refused .ensures .1)
+    let D = d .element-for .ensures a F in
+    record {
+      found = found-none F (s .args .shape .kind) (s .args .shape .pages) D (e .if1 .left) (w .pages-for .ensures a (element-kept (s .args .shape .kind) F D))
+          (f .if2 .left) (c .refused .ensures .0);
+      same = c .refused .ensures .1;
+    }
 
 pub find-spec : {M : Type 1} → statement M
 find-spec =
     tie.close
-    (tie.spec (λ c. search needs) (λ c κs. search needs) returns (λ c κs. search needs) (λ c κs. search needs) returns-2 (λ c κs. search needs)
-    (λ c κs. search needs) returns-3)
+    (tie.spec (λ c. search needs) element-for-requires (λ c. search needs) (λ c. search needs) returns pages-for-requires (λ c κs. search needs) (λ c. search needs)
+    (λ c. search needs) returns-2 (λ c κs. search needs) (λ c. search needs) (λ c. search needs) returns-3)
