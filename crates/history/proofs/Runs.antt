@@ -29,7 +29,7 @@ use Rattle.model.specs.declared.Answer.the-variants.{Refused}
 use Rattle.model.proofs.Tests.{is-true}
 use Rattle.model.proofs.Audit.{sized}
 use Rattle.model.proofs.Checks.{allocate-passed, entry-passes}
-use Rattle.model.proofs.Sweeps.{room-sweeps, last-pages, still-allocates}
+use Rattle.model.proofs.Sweeps.{room-sweeps, allocate-sweeps, last-pages, still-allocates}
 use Rattle.keeps.proofs.Swept.{sweeping, sweeps-kept}
 use Rattle.keeps.proofs.Calls.{entered, keeps, place-pages}
 use Rattle.history.specs.Ledger.{onPages}
@@ -212,12 +212,11 @@ inside-call h c = go (sweeps-only h c)
   where
     go : {c : Call} → (sweepsIn h c ≡ []) ⊎ IsAllocation c → Sweeps h (sweepsIn h c)
     go (inl e) = rw e Room.none
-    go (inr (allocation s i size p)) = unfold sweepsIn allocateSweeps in by (eqb (entry h) 0) (eqb (allocateRefusal h s i size p) 0)
+    go (inr (allocation s i size p)) = unfold sweepsIn in by (eqb (entry h) 0)
       where
-        by : (a b : Bool) → Sweeps h (cond a (cond b (roomSweeps (kindOf size p) (pagesFor size) h) []) [])
-        by true true = room-sweeps (kindOf size p) (pagesFor size) h
-        by true false = Room.none
-        by false b = Room.none
+        by : (a : Bool) → Sweeps h (cond a (allocateSweeps h s i size p) [])
+        by true = allocate-sweeps h s i size p
+        by false = Room.none
 
 pub inside : (P : ℕ) (h : Heap) → Audited (onPages P h) → (r : Request) → Sweeps (onPages P h) (sweepsOf h r)
 inside P h F r = go (eqb (r .pages) P) refl

@@ -3,12 +3,13 @@ use Prim.Native.Nat.{ℕ, zero, suc, _<_, _≤_}
 use mathlib.Core.Bool.{Bool, true, false, cond, _&&_, _||_}
 use mathlib.Core.List.{List, [], _∷_, _++_}
 use mathlib.Core.Path.{_≡_, refl}
-use lib.Dec.{leb}
+use lib.Dec.{eqb, leb}
 use borrow.Author.Tests.{leb-false}
-use Rattle.model.specs.Memory.{Heap, unsweptFlag}
+use Rattle.model.specs.Memory.{Heap, lent, unsweptFlag}
+use Rattle.model.specs.Classes.{kindOf, pagesFor}
 use Rattle.model.specs.Spans.{kindEntry, startsSpan, isUnswept}
 use Rattle.model.specs.Cycle.{sweptSpan}
-use Rattle.model.specs.Allocate.{elementFree, pagesFree, anySpan, nextUnswept, sweepAtMost, sweepUntil, lastOf, kindSweeps, pageSweeps, roomSweeps}
+use Rattle.model.specs.Allocate.{elementFree, pagesFree, anySpan, nextUnswept, sweepAtMost, sweepUntil, lastOf, kindSweeps, pageSweeps, roomSweeps, allocateRefusal, allocateSweeps}
 use Rattle.model.specs.Facts.{IsSpan}
 use Rattle.model.specs.Room.{Sweeps, none, more}
 use Rattle.model.proofs.Tests.{is-true}
@@ -62,6 +63,14 @@ pub room-sweeps : (kind n : ℕ) (h : Heap) → Sweeps h (roomSweeps kind n h)
 unfolding roomSweeps
 room-sweeps kind n h = join (kind-sweeps kind h) (page-sweeps kind n (lastOf h (kindSweeps kind h)))
 
+pub allocate-sweeps : (h : Heap) (s i size p : ℕ) → Sweeps h (allocateSweeps h s i size p)
+unfolding allocateSweeps
+allocate-sweeps h s i size p = go (eqb (allocateRefusal h s i size p) 0)
+  where
+    go : (b : Bool) → Sweeps h (cond b (roomSweeps (kindOf size p) (pagesFor size) h) [])
+    go true = room-sweeps (kindOf size p) (pagesFor size) h
+    go false = none
+
 -- what sweeps leave alone
 pub last-pages : {h : Heap} {gs : List Heap} → Sweeps h gs → lastOf h gs .pages ≡ h .pages
 unfolding lastOf
@@ -77,6 +86,15 @@ pub last-roots : {h : Heap} {gs : List Heap} → Sweeps h gs → lastOf h gs .ro
 unfolding lastOf
 last-roots none = refl
 last-roots (more s i u x) = last-roots x
+
+-- .. so that what they leave is known by the page table and the bitmaps
+pub last-is : {h : Heap} {gs : List Heap} {t b : List ℕ} → Sweeps h gs → t ≡ lastOf h gs .table → b ≡ lastOf h gs .bits →
+    lent (h .pages) (h .arena) t b (h .roots) ≡ lastOf h gs
+last-is {h} {gs} {t} {b} S e f = go (lastOf h gs) (last-pages S) (last-arena S) (last-roots S) e f
+  where
+    go : (g : Heap) → g .pages ≡ h .pages → g .arena ≡ h .arena → g .roots ≡ h .roots → t ≡ g .table → b ≡ g .bits →
+        lent (h .pages) (h .arena) t b (h .roots) ≡ g
+    go g p a r e f = rw (e, f, ← p, ← a, ← r)
 
 -- .. and so an allocation that could be made before them still can
 pub still-allocates : {h : Heap} {gs : List Heap} {s i size p : ℕ} → Sweeps h gs → Allocates h s i size p → Allocates (lastOf h gs) s i size p
