@@ -26,7 +26,7 @@ use Rattle.model.proofs.Bounded.{first-props, some-fails}
 use Rattle.model.proofs.Rules.{tests}
 use Rattle.model.proofs.Spans.{fits}
 use Rattle.model.proofs.Classes.{takes}
-use Rattle.model.proofs.Sweeps.{until-sweeps, room-sweeps, last-pages}
+use Rattle.model.proofs.Sweeps.{until-sweeps, room-sweeps, before-sweeps}
 use Rattle.model.proofs.Checks.{allocate-passed}
 use Rattle.keeps.proofs.SweptTable.{unswept-less}
 use Rattle.keeps.proofs.Swept.{span-kept, sweeps-kept}
@@ -170,8 +170,11 @@ pages-words h n m e g l = go (ltb k n) refl
 
     go : (b : Bool) → ltb (firstBelow n used) n ≡ b → (k : ℕ) × (k < n) × T (not (isFree (h .table) (g + k)))
     go true p = (k, ltb-true k n p, is-true _ (first-props n used .holds (ltb-true k n p)))
-    go false p = absurd (omega (arith, ltb-false (bestRun (h .pages) (h .table) n) (h .pages) e,
-        best-there (h .pages) (h .table) n g m l (λ j x. not-false (isFree (h .table) (g + j)) (first-props n used .before j (omega (arith, ltb-false k n p))))))
+    go false p = absurd (omega (
+      arith,
+      ltb-false (bestRun (h .pages) (h .table) n) (h .pages) e,
+      best-there (h .pages) (h .table) n g m l (λ j x. not-false (isFree (h .table) (g + j)) (first-props n used .before j (omega (arith, ltb-false k n p)))),
+    ))
 
 pages-due : (h : Heap) (n : ℕ) → NoPagesFree h n → pagesFree n h ≡ false
 unfolding bestRun isShortest isRun runLength
@@ -196,13 +199,7 @@ before-not h s i size p =
     go false false true = omega arith
     go false false false = omega arith
 
--- what an allocation comes to: refused before any sweep, refused after them, or not
-before-sweeps : (h : Heap) (s i size p : ℕ) → allocateRefusal h s i size p ≢ 0 →
-    (refusal (allocate h s i size p .answer) ≡ allocateRefusal h s i size p) × (allocate h s i size p .heap ≡ h)
-unfolding allocate placeRecord
-before-sweeps h s i size p d =
-    rw (ne-eqb (allocateRefusal h s i size p) 0 d, last-pages (room-sweeps (kindOf size p) (pagesFor size) h)) (refl, refl)
-
+-- what an allocation comes to after its sweeps: refused, or not
 after-sweeps : (h : Heap) (s i size p : ℕ) → allocateRefusal h s i size p ≡ 0 → let g = sweptForRoom h size p in
     (refusal (allocate h s i size p .answer) ≡ roomRefusal g (kindOf size p) (pagesFor size)) ×
     (roomRefusal g (kindOf size p) (pagesFor size) ≢ 0 → allocate h s i size p .heap .table ≡ g .table)

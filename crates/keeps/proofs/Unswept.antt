@@ -1,20 +1,21 @@
 -- How many spans are unswept: a sweep leaves one less. So the sweeps that make room for an allocation come to their end, within as many as there are
--- pages; outside the sweep phase there are none. The laws of the loop that sweeps are here too, as a program makes it.
+-- pages; where no span is unswept there are none. The laws of the loop that sweeps are here too, as a program makes it.
 use Prim.Native.Nat.{ℕ, zero, suc, _+_, _<_, _≤_}
 use mathlib.Core.Bool.{Bool, true, false, not, cond, _&&_, _||_, or-true}
 use mathlib.Core.List.{List, [], _∷_, _++_}
-use mathlib.Core.Logic.{_⊎_, inl, inr, _≢_}
+use mathlib.Core.Logic.{_⊎_, inl, inr}
 use mathlib.Core.Path.{_≡_, refl, ap, sym, _∙_}
 use native.Mathlib.Omega.{arith}
 use lib.Dec.{T, eqb, leb}
 use borrow.Author.Tests.{eqb-true, eqb-false, leb-true, leb-false, le-leb, lt-leb}
 use Rattle.model.specs.Bounded.{countBelow}
-use Rattle.model.specs.Memory.{Heap, phase, sweep, unsweptFlag}
+use Rattle.model.specs.Memory.{Heap, unsweptFlag}
 use Rattle.model.specs.Spans.{kindEntry, startsSpan, isUnswept}
 use Rattle.model.specs.Cycle.{sweptTable, sweptSpan}
 use Rattle.model.specs.Allocate.{elementFree, pagesFree, ofKind, anySpan, nextUnswept, sweepAtMost, sweepUntil, sweptUntil, lastOf, kindSweeps, pageSweeps, roomSweeps}
 use Rattle.model.specs.Facts.{IsSpan, Audited}
-use Rattle.model.proofs.Tests.{of-true, is-true, cond-same}
+use Rattle.model.specs.Lent.{AllSwept}
+use Rattle.model.proofs.Tests.{of-true, is-true}
 use Rattle.model.proofs.Bounded.{count-bound}
 use Rattle.model.proofs.Rules.{tests}
 use Rattle.model.proofs.Sweeps.{next-unswept}
@@ -66,23 +67,14 @@ fewer {h} F s l i k =
     no true f = absurd (f tt)
     no false f = tt
 
--- outside the sweep phase nothing is swept
-next-none : {h : Heap} → Audited h → phase h ≢ sweep → (test : Heap → ℕ → Bool) → leb (h .pages) (nextUnswept test h) ≡ true
-next-none {h} F d test = go (leb (h .pages) (nextUnswept test h)) refl
+-- where no span is unswept nothing is swept
+next-none : (h : Heap) → AllSwept (h .table) → (test : Heap → ℕ → Bool) → leb (h .pages) (nextUnswept test h) ≡ true
+next-none h A test = go (leb (h .pages) (nextUnswept test h)) refl
   where
     go : (b : Bool) → leb (h .pages) (nextUnswept test h) ≡ b → b ≡ true
     go true e = refl
     go false e = let u = next-unswept test h (leb-false (h .pages) (nextUnswept test h) e) in
-        absurd (omega (arith, F .phases .swept d (nextUnswept test h) (u .0)))
-
-until-none : {h : Heap} → Audited h → phase h ≢ sweep → (n : ℕ) (goal : Heap → Bool) (test : Heap → ℕ → Bool) → sweepAtMost n goal test h ≡ []
-unfolding sweepAtMost
-until-none F d zero goal test = refl
-until-none {h} F d (suc n) goal test = rw (next-none F d test, or-true (goal h))
-
-pub room-none : {h : Heap} → Audited h → phase h ≢ sweep → (kind n : ℕ) → roomSweeps kind n h ≡ []
-unfolding roomSweeps kindSweeps pageSweeps lastOf
-room-none {h} F d kind n = rw (until-none F d (h .pages) (elementFree kind) (ofKind kind), until-none F d (h .pages) (pagesFree n) anySpan) (cond-same (elementFree kind h) [])
+        absurd (omega (arith, A (nextUnswept test h) (u .0)))
 
 -- sweeps come to their end, within as many as there are unswept spans: the goal is met, or no span that passes the test is unswept
 abbrev pub Ended : (Heap → Bool) → (Heap → ℕ → Bool) → Heap → Type 0
@@ -159,8 +151,8 @@ module _ (goal : Heap → Bool) (test : Heap → ℕ → Bool) where
       once : lastOf h (sweepAtMost (suc (h .pages)) goal test h) ≡ sweptUntil goal test (sweptSpan (nextUnswept test h) h)
       once = unfold sweepAtMost lastOf in rw (g, lt-leb (h .pages) (nextUnswept test h) l)
 
-  pub loop-none : {h : Heap} → Audited h → phase h ≢ sweep → sweptUntil goal test h ≡ h
-  loop-none {h} F d = loop-ends h (inr (leb-true (h .pages) (nextUnswept test h) (next-none F d test)))
+  pub loop-none : (h : Heap) → AllSwept (h .table) → sweptUntil goal test h ≡ h
+  loop-none h A = loop-ends h (inr (leb-true (h .pages) (nextUnswept test h) (next-none h A test)))
 
 -- the sweeps for room are two loops, of which the second is made where the first has found none
 last-join : (h : Heap) (gs ks : List Heap) → lastOf h (gs ++ ks) ≡ lastOf (lastOf h gs) ks

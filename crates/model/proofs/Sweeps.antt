@@ -2,14 +2,16 @@
 use Prim.Native.Nat.{ℕ, zero, suc, _<_, _≤_}
 use mathlib.Core.Bool.{Bool, true, false, cond, _&&_, _||_}
 use mathlib.Core.List.{List, [], _∷_, _++_}
+use mathlib.Core.Logic.{_≢_}
 use mathlib.Core.Path.{_≡_, refl}
 use lib.Dec.{eqb, leb}
-use borrow.Author.Tests.{leb-false}
+use borrow.Author.Tests.{ne-eqb, leb-false}
 use Rattle.model.specs.Memory.{Heap, lent, unsweptFlag}
+use Rattle.model.specs.Answers.{refusal}
 use Rattle.model.specs.Classes.{kindOf, pagesFor}
 use Rattle.model.specs.Spans.{kindEntry, startsSpan, isUnswept}
 use Rattle.model.specs.Cycle.{sweptSpan}
-use Rattle.model.specs.Allocate.{elementFree, pagesFree, anySpan, nextUnswept, sweepAtMost, sweepUntil, lastOf, kindSweeps, pageSweeps, roomSweeps, allocateRefusal, allocateSweeps}
+use Rattle.model.specs.Allocate.{elementFree, pagesFree, anySpan, nextUnswept, sweepAtMost, sweepUntil, lastOf, kindSweeps, pageSweeps, roomSweeps, allocateRefusal, allocateSweeps, placeRecord, allocate}
 use Rattle.model.specs.Facts.{IsSpan}
 use Rattle.model.specs.Room.{Sweeps, none, more}
 use Rattle.model.proofs.Tests.{is-true}
@@ -105,3 +107,10 @@ still-allocates S x = record {
   limit = x .limit;
   pointers = x .pointers;
 }
+
+-- an allocation that is refused before any sweep leaves all as it was
+pub before-sweeps : (h : Heap) (s i size p : ℕ) → allocateRefusal h s i size p ≢ 0 →
+    (refusal (allocate h s i size p .answer) ≡ allocateRefusal h s i size p) × (allocate h s i size p .heap ≡ h)
+unfolding allocate placeRecord
+before-sweeps h s i size p d =
+    rw (ne-eqb (allocateRefusal h s i size p) 0 d, last-pages (room-sweeps (kindOf size p) (pagesFor size) h)) (refl, refl)

@@ -1,37 +1,17 @@
--- The search for an unswept span, and whether there is one.
+-- The search for an unswept span.
 use Prim.Native.Nat.{ℕ, _+_, _<_, _≤_}
-use mathlib.Core.Bool.{Bool, true, false, _&&_}
-use mathlib.Core.Path.{_≡_, refl, sym, _∙_}
+use mathlib.Core.Bool.{true, false, _&&_}
+use mathlib.Core.Path.{_≡_, sym, _∙_}
 use native.Mathlib.Omega.{arith}
-use lib.Dec.{T, ltb}
-use borrow.Author.Tests.{ltb-false, lt-ltb, le-ltb}
+use borrow.Author.Tests.{lt-ltb, le-ltb}
 use mathlib.Core.List.{List}
-use Rattle.model.specs.Bounded.{firstBelow, someBelow}
 use Rattle.model.specs.Spans.{owner, kindEntry, startsSpan, isUnswept}
 use Rattle.model.specs.Memory.{unsweptFlag}
 use Rattle.model.specs.Cycle.{firstUnswept}
-use Rattle.model.proofs.Tests.{is-true, of-true, same-test, and-iff, eqb-iff, ltb-iff, leb-iff, clash}
-use Rattle.model.proofs.Bounded.{First, first-is, first-props, some-iff}
+use Rattle.model.proofs.Tests.{is-true, and-iff, eqb-iff, leb-iff, clash}
+use Rattle.model.proofs.Bounded.{first-is, first-props}
 use Rattle.page_entries.specs.Unswept.{UnsweptAt, FirstUnswept}
 use Rattle.page_entries.specs.declared.Unswept.{Unswept}
-
--- some number below n passes exactly if the lowest that does is below n
-pub some-first : (n : ℕ) (t : ℕ → Bool) → ltb (firstBelow n t) n ≡ someBelow n t
-some-first n t = same-test (ltb (firstBelow n t) n) (someBelow n t) found least
-  where
-    f : First n t (firstBelow n t)
-    f = first-props n t
-
-    found : T (ltb (firstBelow n t) n) → T (someBelow n t)
-    found h = let l = ltb-iff (firstBelow n t) n .0 h in some-iff n t .1 (firstBelow n t, l, is-true _ (f .holds l))
-
-    least : T (someBelow n t) → T (ltb (firstBelow n t) n)
-    least h = let x = some-iff n t .0 h in go x (ltb (firstBelow n t) n) refl
-      where
-        go : ((k : ℕ) × (k < n) × T (t k)) → (b : Bool) → ltb (firstBelow n t) n ≡ b → T b
-        go x true e = tt
-        go x false e =
-            clash (t (x .0)) (of-true _ (x .2)) (f .before (x .0) (omega (arith, x .1, ltb-false (firstBelow n t) n e, f .within)))
 
 -- the first unswept span is one
 pub unswept-at : (p : ℕ) (t : List ℕ) → firstUnswept p t < p → (owner t (firstUnswept p t) ≡ firstUnswept p t + 1) × (unsweptFlag ≤ kindEntry t (firstUnswept p t))

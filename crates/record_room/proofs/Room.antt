@@ -1,6 +1,6 @@
 -- The search for room: what each way out of it has found, and how the chain of refusals goes on.
 use Prim.Native.Nat.{ℕ, _<_, _≤_}
-use mathlib.Core.Bool.{Bool, true, false, cond, not, _||_}
+use mathlib.Core.Bool.{Bool, true, false, cond, not, _||_, true≢false}
 use mathlib.Core.List.{List}
 use mathlib.Core.Logic.{inl, _≢_}
 use mathlib.Core.Path.{_≡_, refl, ap, sym, _∙_}
@@ -14,6 +14,7 @@ use Rattle.model.specs.Checks.{slotRefusal, sizeRefusal}
 use Rattle.model.specs.Spans.{kindEntry, elements}
 use Rattle.model.specs.Allocate.{freeElement, hasRoom, spanWithRoom, bestRun, elementFree, pagesFree, ofKind, anySpan, sweptUntil, roomRefusal, newWord, lastOf, roomSweeps, allocateRefusal, allocateSweeps}
 use Rattle.model.specs.Facts.{IsSpan, Audited}
+use Rattle.model.specs.Lent.{AllSwept, Told}
 use Rattle.model.proofs.Tests.{is-true}
 use Rattle.model.proofs.Bounded.{first-props}
 use Rattle.model.proofs.Rules.{tests}
@@ -43,21 +44,25 @@ span-found h kind l =
     let x = simp tests at (is-true _ (first-props (h .pages) (hasRoom h kind) .holds l)) in
     record { span = x .0 .0; same = x .0 .1; free = x .1 }
 
--- ELEMENTS: one is free, or the phase has no unswept span
-module _ {h : Heap} (F : Audited h) (kind : ℕ) {x : Free} (X : FreeOf h kind x) where
+-- ELEMENTS: one is free, or no span is unswept
+module _ {h : Heap} (kind : ℕ) {x : Free} (X : FreeOf h kind x) where
   pub free-at-once : x .found ≡ true → KindDone kind h h x
   free-at-once z = record { heap = sym (loop-ends (elementFree kind) (ofKind kind) h (inl (is-true _ (sym (X .found) ∙ z)))); free = X }
 
-  pub none-to-sweep : phase h ≢ sweep → KindDone kind h h x
-  none-to-sweep d = record { heap = sym (loop-none (elementFree kind) (ofKind kind) F d); free = X }
+  pub none-to-sweep : AllSwept (h .table) → KindDone kind h h x
+  none-to-sweep A = record { heap = sym (loop-none (elementFree kind) (ofKind kind) h A); free = X }
 
--- PAGES: a run is long enough, or the phase has no unswept span
-module _ {h : Heap} (F : Audited h) (n : ℕ) {r : ℕ} (e : r ≡ bestRun (h .pages) (h .table) n) where
+-- PAGES: a run is long enough, or no span is unswept
+module _ (h : Heap) (n : ℕ) {r : ℕ} (e : r ≡ bestRun (h .pages) (h .table) n) where
   pub run-at-once : r < h .pages → PagesDone n h h r
   run-at-once l = record { heap = sym (loop-ends (pagesFree n) anySpan h (inl (is-true _ (lt-ltb _ _ (rw e at l))))); run = e }
 
-  pub none-to-return : phase h ≢ sweep → PagesDone n h h r
-  none-to-return d = record { heap = sym (loop-none (pagesFree n) anySpan F d); run = e }
+  pub none-to-return : AllSwept (h .table) → PagesDone n h h r
+  none-to-return A = record { heap = sym (loop-none (pagesFree n) anySpan h A); run = e }
+
+-- outside the sweep phase no span is unswept
+pub told : {h : Heap} → Audited h → {b : Bool} → b ≡ not (eqb (phase h) sweep) → Told b (h .table)
+told {h} F e z = F .phases .swept (λ p. true≢false (sym z ∙ e ∙ ap not (eq-eqb (phase h) sweep p)))
 
 -- what the sweeps for an element leave passes the audit
 pub element-kept : {h k : Heap} (kind : ℕ) {x : Free} → Audited h → KindDone kind h k x → Audited k

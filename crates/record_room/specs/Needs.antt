@@ -12,23 +12,11 @@ use Rattle.model.specs.Facts.{Audited}
 use Rattle.model.specs.Contracts.{Buffer, foundWith}
 use Rattle.classes.specs.Shape.{Shaped}
 use Rattle.classes.specs.declared.Shape.{Shape}
-use Rattle.element_search.specs.declared.Free.{Free}
-use Rattle.units.specs.declared.Page.{Page}
-use Rattle.room_sweeps.specs.Needs.{KindDone, PagesDone}
 use Rattle.record_room.specs.declared.RecordPlace.{RecordPlace}
 
 -- the heap that a function leaves, with whatever arena
 abbrev pub leftWith : List ℕ → ℕ → Buffer → Buffer → Buffer → Heap
 leftWith a p table bits roots = lent p a (now (table .exit)) (now (bits .exit)) (now (roots .exit))
-
--- a free element of the kind, and a run of n pages, after the sweeps for it
-abbrev pub FindsElement : ℕ → ℕ → Buffer → Buffer → Buffer → Free → Type 0
-FindsElement kind p table bits roots r =
-    (a : List ℕ) → let h = foundWith a p table bits roots in Audited h → KindDone kind h (leftWith a p table bits roots) r
-
-abbrev pub FindsPages : ℕ → ℕ → Buffer → Buffer → Buffer → Page → Type 0
-FindsPages n p table bits roots r =
-    (a : List ℕ) → let h = foundWith a p table bits roots in Audited h → PagesDone n h (leftWith a p table bits roots) (r .0)
 
 -- what the search has found on the heap g, swept for a record of this kind, whose new span has n pages: the refusal that is due; without one the
 -- record's first word, and whether its span is to be made; and the page table and the bitmaps are those of g

@@ -4,7 +4,9 @@ ghost use mathlib.Core.Path.{_≡_};
 ghost use Prim.Native.Nat.{_<_};
 ghost use Rattle.model.specs.Checks.{sizeRefusal};
 ghost use Rattle.model.specs.Contracts.{AuditedTables};
-ghost use Rattle.record_room.specs.Needs.{FindsElement, FindsPages, FindsPlace, ChoosesPlace};
+ghost use Rattle.model.specs.Lent.{Told};
+ghost use Rattle.room_sweeps.specs.Needs.{LentAudited, SweepsKind, SweepsPages};
+ghost use Rattle.record_room.specs.Needs.{FindsPlace, ChoosesPlace};
 use classes::Shape;
 use element_search::Free;
 use units::Page;
@@ -47,33 +49,33 @@ fn refused(number: u64, shape: Shape) -> RecordPlace
     }
 }
 
-// A free element of the kind: of a swept span, else of one that is swept for it in the sweep phase.
-// In the other phases no span is unswept.
-fn element_for(p: usize, table: &mut [u32], bits: &mut [u64], roots: &[u64], kind: usize) -> Free
-    requires { ⌜ AuditedTables p table bits roots ⌝ }
-    ensures { λ r. ⌜ FindsElement kind p table bits roots r ⌝ }
+// A free element of the kind: of a swept span, else of one that is swept for it. `swept` says that no
+// span is unswept.
+fn element_for(p: usize, table: &mut [u32], bits: &mut [u64], swept: bool, kind: usize) -> Free
+    requires { ⌜ LentAudited p (now table) (now bits) × Told swept (now table) ⌝ }
+    ensures { λ r. ⌜ SweepsKind kind p table bits r ⌝ }
 {
     let free = element_search::free_of(p, table, bits, kind);
     if free.found {
         return free;
     }
-    if roots[units::PHASE] != units::SWEEP {
+    if swept {
         return free;
     }
     room_sweeps::sweep_kind(p, table, bits, kind)
 }
 
 // The first page of the best run of n pages, or p: of the pages that are free, else of those that
-// spans return that are swept for it in the sweep phase.
-fn pages_for(p: usize, table: &mut [u32], bits: &mut [u64], roots: &[u64], n: usize) -> Page
-    requires { ⌜ AuditedTables p table bits roots × (0 < n) ⌝ }
-    ensures { λ r. ⌜ FindsPages n p table bits roots r ⌝ }
+// spans return that are swept for it. `swept` says that no span is unswept.
+fn pages_for(p: usize, table: &mut [u32], bits: &mut [u64], swept: bool, n: usize) -> Page
+    requires { ⌜ LentAudited p (now table) (now bits) × Told swept (now table) × (0 < n) ⌝ }
+    ensures { λ r. ⌜ SweepsPages n p table bits r ⌝ }
 {
     let page = page_runs::best_run(p, table, n);
     if page.0 < p {
         return page;
     }
-    if roots[units::PHASE] != units::SWEEP {
+    if swept {
         return page;
     }
     room_sweeps::sweep_pages(p, table, bits, n)
@@ -81,11 +83,13 @@ fn pages_for(p: usize, table: &mut [u32], bits: &mut [u64], roots: &[u64], n: us
 
 // The place of a record of this shape, after the sweeps that make room for it: the lowest free element
 // of the lowest swept span of its kind that has one, else the first word of the best run of pages.
+// Outside the sweep phase no span is unswept.
 fn find(p: usize, table: &mut [u32], bits: &mut [u64], roots: &[u64], shape: Shape) -> RecordPlace
     requires { ⌜ AuditedTables p table bits roots × (0 < shape .pages) ⌝ }
     ensures { λ r. ⌜ FindsPlace shape p table bits roots r ⌝ }
 {
-    let free = element_for(p, table, bits, roots, shape.kind as usize);
+    let swept = roots[units::PHASE] != units::SWEEP;
+    let free = element_for(p, table, bits, swept, shape.kind as usize);
     if free.found {
         let word = free.word;
         return RecordPlace {
@@ -95,7 +99,7 @@ fn find(p: usize, table: &mut [u32], bits: &mut [u64], roots: &[u64], shape: Sha
             shape: shape,
         };
     }
-    let page = pages_for(p, table, bits, roots, shape.pages);
+    let page = pages_for(p, table, bits, swept, shape.pages);
     if page.0 < p {
         return RecordPlace {
             refusal: 0,

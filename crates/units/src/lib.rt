@@ -92,8 +92,6 @@ pub const NIL_SLOT: u64 = 6;
 
 pub const BAD_FIELD: u64 = 7;
 
-pub const SWEEP_FIRST: u64 = 8;
-
 pub const NO_ROOM: u64 = 9;
 
 pub const UNFINISHED: u64 = 10;
