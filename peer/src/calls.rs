@@ -6,7 +6,7 @@ use crate::faults;
 use crate::heap::Heap;
 use crate::layout::Buffers;
 
-/// Why a call was refused, tested in this order.
+/// Why a call was refused, tested in this order. Number 8 is no longer given.
 #[derive(Clone, Copy, Debug, PartialEq, Eq)]
 pub enum Refusal {
     BadBuffers,
@@ -17,7 +17,6 @@ pub enum Refusal {
     BadSize,
     Nil,
     BadField,
-    SweepFirst,
     NoRoom,
     Unfinished,
 }
@@ -33,7 +32,6 @@ impl Refusal {
             Refusal::BadSize => 5,
             Refusal::Nil => 6,
             Refusal::BadField => 7,
-            Refusal::SweepFirst => 8,
             Refusal::NoRoom => 9,
             Refusal::Unfinished => 10,
         }

@@ -9,6 +9,13 @@ use crate::faults;
 use crate::heap::Heap;
 use crate::layout::*;
 
+/// What the sweep of a span did.
+pub(crate) struct Swept {
+    pub(crate) freed: u64,
+    /// The span's pages if nothing is left in it, else 0.
+    pub(crate) returned: u64,
+}
+
 impl<const FAULT: u8> Heap<'_, FAULT> {
     pub(crate) fn start(&mut self) -> Answer {
         self.need_phase(PHASE_OFF)?;
@@ -79,7 +86,8 @@ impl<const FAULT: u8> Heap<'_, FAULT> {
         let mut page = Page::new(0);
         while let Some(span) = self.next_span(page) {
             if span.unswept {
-                return Ok(self.sweep(&span));
+                let Swept { freed, returned } = self.sweep(&span);
+                return Ok([u64::from(span.start.start_number()), freed, returned]);
             }
             page = span.end();
         }
@@ -87,8 +95,8 @@ impl<const FAULT: u8> Heap<'_, FAULT> {
         Ok([0; 3])
     }
 
-    /// Gives the span's start page + 1, elements freed, pages returned.
-    fn sweep(&mut self, span: &Span) -> [u64; 3] {
+    /// Sweeps an unswept span, for a sweep step or for an allocation.
+    pub(crate) fn sweep(&mut self, span: &Span) -> Swept {
         let (mut freed, mut left) = (0, 0);
         for place in span.bitmap_words() {
             let white = self.allocated[place] & !self.marked[place];
@@ -106,7 +114,7 @@ impl<const FAULT: u8> Heap<'_, FAULT> {
             self.return_pages(span);
             returned = span.pages as u64;
         }
-        [u64::from(span.start.start_number()), freed, returned]
+        Swept { freed, returned }
     }
 
     /// Clears the pointer runs of the elements at these bits of a bitmap word.

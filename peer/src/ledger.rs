@@ -1,12 +1,14 @@
 //! A second book about a list of calls, and the checks that hold the heap
 //! against it. The ledger knows each call's numbers and, of the answer, only
 //! whether it was refused and the address that an allocation gave. The checker
-//! looks at the buffers after each call and names the first clause that does
-//! not hold.
+//! looks at the buffers before and after each call and names the first clause
+//! that does not hold. What is freed is no part of the ledger: a sweep step
+//! frees, and so does an allocation that sweeps, also one that is refused.
 
 use crate::bits::bit;
-use crate::calls::{apply, Answer, Call};
+use crate::calls::{apply, Answer, Call, Refusal};
 use crate::classes::{element_words, MAX_RECORD_BYTES};
+use crate::faults;
 use crate::layout::*;
 
 /// Nil, or a record by its number in order of birth.
@@ -168,6 +170,12 @@ pub enum Broken {
     PageInSpans(usize),
     /// More mark steps did work than there are records.
     MarkSteps(u64),
+    /// A call with this refusal changed a word that it has to leave alone.
+    RefusalChanged(u64),
+    /// There was no room, and the span at this page was left unswept.
+    LeftUnswept(usize),
+    /// This phase is not the one that the cycle's calls have led to.
+    Phase(u64),
     /// The audit says no.
     Audit,
 }
@@ -177,105 +185,155 @@ struct Cycle {
     /// Records that have to be freed before its end.
     garbage: Vec<usize>,
     mark_steps: u64,
+    finished: bool,
+}
+
+impl Cycle {
+    fn phase(&self) -> u64 {
+        if self.finished {
+            PHASE_SWEEP
+        } else {
+            PHASE_MARK
+        }
+    }
 }
 
 /// Checks a list of calls from its first accepted setup on.
 #[derive(Default)]
-pub struct Checker {
+pub struct Checker<const FAULT: u8 = { faults::NONE }> {
     ledger: Option<Ledger>,
     freed: Vec<bool>,
     cycle: Option<Cycle>,
-    /// The allocated bits after the call before.
-    allocated: Vec<u64>,
 }
 
-impl Checker {
-    /// Takes the next call of the list with its answer and the buffers after
-    /// it, and tests every clause.
+impl<const FAULT: u8> Checker<FAULT> {
+    /// Takes the next call of the list with its answer and the buffers before
+    /// and after it, and tests every clause.
     pub fn after(
         &mut self,
         call: &Call,
         answer: &Answer,
+        before: &Buffers<'_>,
         mut buffers: Buffers<'_>,
     ) -> Result<(), Broken> {
+        if let Err(refusal) = answer {
+            check_refused(*refusal, before, &buffers)?;
+        }
         if let (Call::Setup { .. }, Ok(_)) = (call, answer) {
             *self = Checker { ledger: Some(Ledger::empty()), ..Checker::default() };
         }
         if self.ledger.is_none() {
             return Ok(());
         }
-        let allocated = buffers.bitmaps[..buffers.bitmaps.len() / BITMAP_PARTS].to_vec();
-        if let Ok(values) = answer {
-            self.accepted(call, values, &allocated)?;
-        }
-        self.allocated = allocated;
+        self.happened(call, answer, before, &buffers)?;
         self.compare(&buffers)?;
         check_pages(&buffers)?;
+        let phase = self.cycle.as_ref().map_or(PHASE_OFF, |cycle| cycle.phase());
+        if buffers.roots[PHASE] != phase {
+            return Err(Broken::Phase(buffers.roots[PHASE]));
+        }
         let pages = (buffers.arena.len() / PAGE_WORDS) as u64;
         apply(&Call::Audit { pages }, buffers.again()).map_err(|_| Broken::Audit)?;
         Ok(())
     }
 
-    fn accepted(&mut self, call: &Call, values: &[u64; 3], bits: &[u64]) -> Result<(), Broken> {
-        let Some(ledger) = &mut self.ledger else {
+    /// Frees come before a birth: a record that is freed and one that is born
+    /// in the same call may have the same address.
+    fn happened(
+        &mut self,
+        call: &Call,
+        answer: &Answer,
+        before: &Buffers<'_>,
+        after: &Buffers<'_>,
+    ) -> Result<(), Broken> {
+        let freed = match call {
+            Call::SweepStep { .. } => freed_words(before, after),
+            Call::Allocate { .. } if FAULT != faults::FREES_NOT_COUNTED => {
+                freed_words(before, after)
+            }
+            _ => Vec::new(),
+        };
+        if FAULT == faults::BIRTH_BEFORE_FREES {
+            self.accepted(call, answer)?;
+        }
+        self.count_freed(&freed)?;
+        if FAULT != faults::BIRTH_BEFORE_FREES {
+            self.accepted(call, answer)?;
+        }
+        self.cycle_call(call, answer, after)
+    }
+
+    /// The record last born at each of these words is freed.
+    fn count_freed(&mut self, words: &[Word]) -> Result<(), Broken> {
+        let Some(ledger) = &self.ledger else {
             return Ok(());
         };
-        ledger.enter(call, values[0]).ok_or(Broken::NotPossible)?;
-        self.freed.resize(ledger.records.len(), false);
-        if ledger.answer(call).is_some_and(|expected| expected != values[0]) {
-            return Err(Broken::Answer(values[0]));
+        for &word in words {
+            let address = Address::of_word(word).number();
+            let last = ledger.records.iter().rposition(|record| record.address == address);
+            match last {
+                Some(record) if !self.freed[record] => self.freed[record] = true,
+                _ => return Err(Broken::FreedTwice(address)),
+            }
         }
-        match call {
-            Call::Start { .. } => {
+        Ok(())
+    }
+
+    /// Enters an accepted call in the ledger. A refused one leaves it alone.
+    fn accepted(&mut self, call: &Call, answer: &Answer) -> Result<(), Broken> {
+        let (Some(ledger), Ok([value, ..])) = (&mut self.ledger, *answer) else {
+            return Ok(());
+        };
+        ledger.enter(call, value).ok_or(Broken::NotPossible)?;
+        self.freed.resize(ledger.records.len(), false);
+        if ledger.answer(call).is_some_and(|expected| expected != value) {
+            return Err(Broken::Answer(value));
+        }
+        Ok(())
+    }
+
+    /// What an accepted call does to the cycle.
+    fn cycle_call(
+        &mut self,
+        call: &Call,
+        answer: &Answer,
+        after: &Buffers<'_>,
+    ) -> Result<(), Broken> {
+        let (Some(ledger), Ok(values)) = (&self.ledger, answer) else {
+            return Ok(());
+        };
+        match (call, &mut self.cycle) {
+            (Call::Start { .. }, _) => {
                 let reachable = ledger.reachable();
                 let garbage = (0..reachable.len()).filter(|&r| !reachable[r] && !self.freed[r]);
-                self.cycle = Some(Cycle { garbage: garbage.collect(), mark_steps: 0 });
+                let garbage = garbage.collect();
+                self.cycle = Some(Cycle { garbage, mark_steps: 0, finished: false });
             }
-            Call::MarkStep { .. } => {
-                if let Some(cycle) = &mut self.cycle {
-                    cycle.mark_steps += u64::from(values[0] != 0);
+            (Call::MarkStep { .. }, Some(cycle)) => {
+                cycle.mark_steps += u64::from(values[0] != 0);
+            }
+            (Call::Finish { .. }, Some(cycle)) => {
+                cycle.finished = true;
+                if cycle.mark_steps > allocated_count(after) {
+                    return Err(Broken::MarkSteps(cycle.mark_steps));
                 }
             }
-            Call::Finish { .. } => {
-                let records: u64 = bits.iter().map(|word| u64::from(word.count_ones())).sum();
-                let steps = self.cycle.as_ref().map_or(0, |cycle| cycle.mark_steps);
-                if steps > records {
-                    return Err(Broken::MarkSteps(steps));
-                }
-            }
-            Call::SweepStep { .. } => self.swept(values, bits)?,
+            (Call::SweepStep { .. }, Some(_)) if *values == [0; 3] => return self.ended(),
             _ => {}
         }
         Ok(())
     }
 
-    /// What a sweep step freed, and what a whole cycle has to have freed.
-    fn swept(&mut self, values: &[u64; 3], bits: &[u64]) -> Result<(), Broken> {
-        let Some(ledger) = &self.ledger else {
+    /// What a whole cycle has to have freed. Nothing is freed twice, so freed
+    /// by now is freed exactly once.
+    fn ended(&mut self) -> Result<(), Broken> {
+        let (Some(ledger), Some(cycle)) = (&self.ledger, self.cycle.take()) else {
             return Ok(());
         };
-        for (place, (before, after)) in self.allocated.iter().zip(bits).enumerate() {
-            let mut gone = before & !after;
-            while gone != 0 {
-                let word = Word::new(place * BITMAP_BITS + gone.trailing_zeros() as usize);
-                gone &= gone - 1;
-                let address = Address::of_word(word).number();
-                let last = ledger.records.iter().rposition(|record| record.address == address);
-                match last {
-                    Some(record) if !self.freed[record] => self.freed[record] = true,
-                    _ => return Err(Broken::FreedTwice(address)),
-                }
-            }
+        match cycle.garbage.iter().find(|&&record| !self.freed[record]) {
+            Some(&record) => Err(Broken::NotFreed(ledger.records[record].address)),
+            None => Ok(()),
         }
-        if *values == [0; 3] {
-            if let Some(cycle) = self.cycle.take() {
-                // Nothing is freed twice, so freed by now is freed exactly once.
-                if let Some(&record) = cycle.garbage.iter().find(|&&record| !self.freed[record]) {
-                    return Err(Broken::NotFreed(ledger.records[record].address));
-                }
-            }
-        }
-        Ok(())
     }
 
     /// Holds roots and reachable records against the ledger.
@@ -302,6 +360,61 @@ impl Checker {
         }
         Ok(())
     }
+}
+
+/// A refused call changes no word, but for one that has swept every span in
+/// vain: it changes page table and bitmaps.
+fn check_refused(
+    refusal: Refusal,
+    before: &Buffers<'_>,
+    after: &Buffers<'_>,
+) -> Result<(), Broken> {
+    let no_room = refusal == Refusal::NoRoom;
+    let may_sweep = no_room && before.roots.get(PHASE) == Some(&PHASE_SWEEP);
+    let same = before.arena == after.arena
+        && before.roots == after.roots
+        && (may_sweep || (before.table == after.table && before.bitmaps == after.bitmaps));
+    if !same {
+        return Err(Broken::RefusalChanged(refusal.number()));
+    }
+    match unswept_spans(after.table).next() {
+        Some((page, _)) if no_room => Err(Broken::LeftUnswept(page)),
+        _ => Ok(()),
+    }
+}
+
+/// The start page and the page count of each unswept span.
+fn unswept_spans(table: &[u32]) -> impl Iterator<Item = (usize, usize)> + '_ {
+    let entries = table.chunks_exact(ENTRY_NUMBERS).enumerate();
+    let unswept = entries.filter(|(page, entry)| {
+        entry[ENTRY_START] as usize == page + 1 && entry[ENTRY_KIND] & UNSWEPT != 0
+    });
+    unswept.map(|(page, entry)| (page, entry[ENTRY_COUNT] as usize))
+}
+
+/// The first words of the elements that a call has freed: those whose allocated
+/// bit it turned off, and those that were allocated and not marked in a span
+/// that was unswept and no longer is, also where they were given out again.
+fn freed_words(before: &Buffers<'_>, after: &Buffers<'_>) -> Vec<Word> {
+    let part = before.bitmaps.len() / BITMAP_PARTS;
+    let (allocated, marked) = (&before.bitmaps[..part], &before.bitmaps[part..]);
+    let turned_off = allocated.iter().zip(&after.bitmaps[..part]).map(|(old, new)| old & !new);
+    let mut freed: Vec<u64> = turned_off.collect();
+    let still_unswept: Vec<_> = unswept_spans(after.table).collect();
+    for (start, pages) in unswept_spans(before.table).filter(|span| !still_unswept.contains(span)) {
+        let (first, end) = (Page::new(start), Page::new(start + pages));
+        for place in first.first_bitmap_word()..end.first_bitmap_word() {
+            freed[place] |= allocated[place] & !marked[place];
+        }
+    }
+    let words = (0..part * BITMAP_BITS).map(Word::new);
+    words.filter(|&word| bit(&freed, word)).collect()
+}
+
+/// How many elements are allocated.
+fn allocated_count(buffers: &Buffers<'_>) -> u64 {
+    let allocated = &buffers.bitmaps[..buffers.bitmaps.len() / BITMAP_PARTS];
+    allocated.iter().map(|bits| u64::from(bits.count_ones())).sum()
 }
 
 fn compare_root(

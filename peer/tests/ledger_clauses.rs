@@ -23,13 +23,15 @@ fn passed(pages: u64, text: &str) -> Passed {
 
 impl Passed {
     fn step(&mut self, call: &Call) -> Result<(), Broken> {
+        let mut before = self.owned.clone();
         let answer = apply(call, self.owned.lend());
-        self.claim(call, answer)
+        self.checker.after(call, &answer, &before.lend(), self.owned.lend())
     }
 
     /// Tells the checker of a call without carrying it out.
     fn claim(&mut self, call: &Call, answer: Answer) -> Result<(), Broken> {
-        self.checker.after(call, &answer, self.owned.lend())
+        let mut before = self.owned.clone();
+        self.checker.after(call, &answer, &before.lend(), self.owned.lend())
     }
 
     /// What the checker finds in the buffers as they are now.
@@ -62,7 +64,9 @@ fn buffers_are_compared() {
     assert_eq!(broken_by(|o| o.table[1] = 2), Err(Broken::PageInSpans(1)));
     assert_eq!(broken_by(|o| o.table[1] = 3), Err(Broken::PageInSpans(0)));
     assert_eq!(broken_by(|o| o.table[3] = 1), Err(Broken::PageInSpans(1)));
-    assert_eq!(broken_by(|o| o.roots[561] = 3), Err(Broken::Audit));
+    assert_eq!(broken_by(|o| o.roots[561] = 1), Err(Broken::Phase(1)));
+    assert_eq!(broken_by(|o| o.roots[561] = 2), Err(Broken::Phase(2)));
+    assert_eq!(broken_by(|o| o.bitmaps[32] = 1), Err(Broken::Audit));
 }
 
 fn claimed(text: &str, line: &str, value: u64) -> Result<(), Broken> {

@@ -239,8 +239,8 @@ fn random_lists_catch_wrong_heaps() {
     }
 }
 
-/// An allocation may only say 8 or 9 where a search by hand finds no place,
-/// and has to give the place that the search finds.
+/// An allocation may only say 9 where a search by hand, with all its sweeps,
+/// finds no place, and has to give the place that the search finds.
 #[test]
 fn no_room_means_no_room() {
     let mut random = Random::new(seed(9));
@@ -251,16 +251,16 @@ fn no_room_means_no_room() {
         let mut owned = Owned::zero(pages);
         let mut call = Call::Setup { pages };
         for _ in 0..200 {
-            let before = owned.clone();
+            let mut before = owned.clone();
             let answer = apply(&call, owned.lend());
             if let Call::Allocate { size, pointers, .. } = call {
+                let mut place = || place_for(&mut before, size, pointers).map(|(word, _)| word);
                 match answer {
                     Ok([address, ..]) => {
-                        let place = place_for(&before, size, pointers).map(|(word, _)| word);
-                        assert_eq!(place, Some((address as usize - 8192) / 8));
+                        assert_eq!(place(), Some((address as usize - 8192) / 8));
                     }
-                    Err(Refusal::NoRoom | Refusal::SweepFirst) => {
-                        assert_eq!(place_for(&before, size, pointers), None);
+                    Err(Refusal::NoRoom) => {
+                        assert_eq!(place(), None);
                         refused += 1;
                     }
                     Err(_) => {}

@@ -148,7 +148,6 @@ fn refusal_of(number: u64) -> Refusal {
         Refusal::BadSize,
         Refusal::Nil,
         Refusal::BadField,
-        Refusal::SweepFirst,
         Refusal::NoRoom,
         Refusal::Unfinished,
     ];

@@ -108,9 +108,7 @@ fn from_environment(name: &str) -> Option<u64> {
 /// What gave a heap away.
 #[derive(Clone, Debug, PartialEq, Eq)]
 pub enum Caught {
-    /// A refused call changed a word.
-    RefusalChanged,
-    /// A clause about the whole list does not hold.
+    /// A clause about refused calls or about the whole list does not hold.
     Ledger(Broken),
     /// The two audits differ.
     Audit,
@@ -142,12 +140,9 @@ impl Harness {
     }
 
     pub fn step(&mut self, call: &Call) -> Result<Answer, Caught> {
-        let before = self.owned.clone();
+        let mut before = self.owned.clone();
         let answer = (self.heap)(call, self.owned.lend());
-        if answer.is_err() && self.owned != before {
-            return Err(Caught::RefusalChanged);
-        }
-        let checked = self.checker.after(call, &answer, self.owned.lend());
+        let checked = self.checker.after(call, &answer, &before.lend(), self.owned.lend());
         checked.map_err(Caught::Ledger)?;
         if self.with_slow_heap {
             if self.owned.audit() != slow::broken_clause(&self.owned).is_none() {

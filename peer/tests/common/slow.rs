@@ -1,7 +1,8 @@
 //! A second heap, slow and simple: no bitmap tricks, a step for each word, and
 //! the class table as the runtime's sources print it. The audit goes clause by
 //! clause and names the one that is broken. A refusal is found by collecting
-//! every one that applies and taking the first in the order of the table.
+//! every one that applies and taking the first in the order of the table. An
+//! allocation reads all spans anew after each span that it sweeps.
 
 use std::collections::HashSet;
 use std::sync::OnceLock;
@@ -407,8 +408,8 @@ fn refusals(call: &Call, owned: &Owned) -> Vec<u64> {
     if needs.places.iter().any(|&place| place >= 32) {
         found.push(4);
     }
-    if let Some((size, pointers)) = needs.size {
-        found.extend(size_refusal(owned, size, pointers));
+    if needs.size.is_some_and(|(size, p)| size == 0 || size > 1_048_576 || p > size / 8) {
+        found.push(5);
     }
     // A field can only be looked at where stack and slot are good.
     if found.is_empty() {
@@ -423,17 +424,6 @@ fn refusals(call: &Call, owned: &Owned) -> Vec<u64> {
 fn something_is_gray(owned: &Owned) -> bool {
     let roots = owned.roots[STATES..=GLOBALS_STATE].contains(&2);
     roots || (0..owned.arena.len()).any(|word| get_bit(owned, GRAY, word))
-}
-
-fn size_refusal(owned: &Owned, size: u64, pointers: u64) -> Option<u64> {
-    if size == 0 || size > 1_048_576 || pointers > size / 8 {
-        return Some(5);
-    }
-    if place_for(owned, size, pointers).is_some() {
-        return None;
-    }
-    let unswept = owned.roots[PHASE] == 2 && spans(owned).iter().any(|span| span.unswept);
-    Some(if unswept { 8 } else { 9 })
 }
 
 fn field_refusal(owned: &Owned, needs: &Needs) -> Option<u64> {
@@ -468,15 +458,35 @@ fn shape(size: u64, pointers: u64) -> (u32, usize, usize) {
 }
 
 /// The first word of the element that a record gets, and whether its span is
-/// new; none if there is no room.
-pub fn place_for(owned: &Owned, size: u64, pointers: u64) -> Option<(usize, bool)> {
+/// new; none if there is no room. Sweeps span after span until there is room,
+/// and after each looks at everything again: swept spans of the kind come
+/// before unswept ones, those before free pages, and those before the sweep of
+/// another kind.
+pub fn place_for(owned: &mut Owned, size: u64, pointers: u64) -> Option<(usize, bool)> {
     let (kind, need, _) = shape(size, pointers);
-    for span in spans(owned).iter().filter(|span| span.kind == kind && !span.unswept) {
-        let free = |word: &usize| !get_bit(owned, ALLOCATED, *word);
-        if let Some(word) = span.elements().into_iter().find(free) {
+    loop {
+        if let Some(word) = free_element(owned, kind) {
             return Some((word, false));
         }
+        let mut unswept: Vec<Span> = spans(owned).into_iter().filter(|s| s.unswept).collect();
+        if unswept.iter().any(|span| span.kind == kind) {
+            unswept.retain(|span| span.kind == kind);
+        } else if let Some(start) = free_pages(owned, need) {
+            return Some((start * 1024, true));
+        }
+        sweep(owned, unswept.first()?);
     }
+}
+
+/// The first free element in all swept spans of the kind.
+fn free_element(owned: &Owned, kind: u32) -> Option<usize> {
+    let swept = spans(owned).into_iter().filter(|span| span.kind == kind && !span.unswept);
+    let mut elements = swept.flat_map(|span| span.elements());
+    elements.find(|&word| !get_bit(owned, ALLOCATED, word))
+}
+
+/// The start of the shortest run of at least `need` free pages.
+fn free_pages(owned: &Owned, need: usize) -> Option<usize> {
     let pages = owned.table.len() / 3;
     let is_free = |page: usize| page < pages && owned.table[3 * page] == 0;
     let mut runs = Vec::new();
@@ -486,30 +496,30 @@ pub fn place_for(owned: &Owned, size: u64, pointers: u64) -> Option<(usize, bool
     }
     runs.retain(|&(length, _)| length >= need);
     runs.sort();
-    runs.first().map(|&(_, start)| (start * 1024, true))
+    runs.first().map(|&(_, start)| start)
 }
 
 /// The answer of a call on these buffers, and the buffers after it.
 pub fn predict(call: &Call, before: &Owned) -> (Outcome, Owned) {
     let found = refusals(call, before);
-    let order = [1, 12, 2, 3, 4, 5, 6, 7, 8, 9, 10];
+    let order = [1, 12, 2, 3, 4, 5, 6, 7, 10];
     let mut owned = before.clone();
-    match order.iter().find(|number| found.contains(number)) {
-        Some(&number) => (Err(number), owned),
-        None => {
-            let values = carry_out(call, &mut owned);
-            (Ok(values), owned)
-        }
-    }
+    let outcome = match order.iter().find(|number| found.contains(number)) {
+        Some(&number) => Err(number),
+        // The one refusal that is found late and changes words.
+        None => carry_out(call, &mut owned).ok_or(9),
+    };
+    (outcome, owned)
 }
 
-fn carry_out(call: &Call, owned: &mut Owned) -> [u64; 3] {
+/// None if an allocation finds no room.
+fn carry_out(call: &Call, owned: &mut Owned) -> Option<[u64; 3]> {
     let slot = |stack: u64, slot: u64| (32 * stack + slot) as usize;
-    match *call {
+    Some(match *call {
         Call::Setup { .. } => setup(owned),
         Call::Audit { .. } => [0; 3],
         Call::Allocate { stack, slot: to, size, pointers, .. } => {
-            let value = allocate(owned, size, pointers);
+            let value = allocate(owned, size, pointers)?;
             set_root(owned, slot(stack, to), value)
         }
         Call::Copy { stack, to, from, .. } => {
@@ -535,7 +545,7 @@ fn carry_out(call: &Call, owned: &mut Owned) -> [u64; 3] {
         }
         Call::Store { .. } | Call::StoreGlobal { .. } => store(call, owned),
         _ => carry_out_cycle(call, owned),
-    }
+    })
 }
 
 fn setup(owned: &mut Owned) -> [u64; 3] {
@@ -555,9 +565,9 @@ fn field_word(owned: &Owned, place: usize, field: u64) -> usize {
     ((owned.roots[place] - 8192) / 8 + field) as usize
 }
 
-fn allocate(owned: &mut Owned, size: u64, pointers: u64) -> u64 {
+fn allocate(owned: &mut Owned, size: u64, pointers: u64) -> Option<u64> {
     let (kind, pages, words) = shape(size, pointers);
-    let (word, new) = place_for(owned, size, pointers).unwrap();
+    let (word, new) = place_for(owned, size, pointers)?;
     if new {
         for page in word / 1024..word / 1024 + pages {
             owned.table[3 * page] = (word / 1024 + 1) as u32;
@@ -575,7 +585,7 @@ fn allocate(owned: &mut Owned, size: u64, pointers: u64) -> u64 {
     if owned.roots[PHASE] == 1 {
         put_bit(owned, MARKED, word, true);
     }
-    8192 + 8 * word as u64
+    Some(8192 + 8 * word as u64)
 }
 
 fn store(call: &Call, owned: &mut Owned) -> [u64; 3] {
@@ -667,6 +677,11 @@ fn sweep_step(owned: &mut Owned) -> [u64; 3] {
         owned.roots[PHASE] = 0;
         return [0; 3];
     };
+    sweep(owned, &span)
+}
+
+/// Start page + 1, elements freed, pages returned.
+fn sweep(owned: &mut Owned, span: &Span) -> [u64; 3] {
     let (mut freed, mut left) = (0, 0);
     for element in span.elements() {
         if get_bit(owned, MARKED, element) {
