@@ -56,6 +56,8 @@ const SIZES: [u64; 24] = [
 
 /// So many of them let a page hold many records.
 const SMALL_SIZES: usize = 8;
+/// So many of those that fit leave little room for others.
+const LARGEST_SIZES: usize = 4;
 
 /// Makes the calls of one list; each list has its own habits.
 pub struct CallMaker {
@@ -71,6 +73,8 @@ pub struct CallMaker {
     allocate_share: u64,
     /// How many calls in a thousand belong to the cycle.
     cycle_share: u64,
+    /// Whether the list leaves most of the sweeping to its allocations.
+    lazy: bool,
     /// How many calls or numbers in a thousand are wild.
     wild_share: u64,
     /// The second half of a move, to be made next.
@@ -83,7 +87,8 @@ impl CallMaker {
         let fitting = SIZES.iter().filter(|&&size| size <= pages * PAGE_BYTES).count() + 1;
         let any = &SIZES[..fitting.min(SIZES.len())];
         let small = &SIZES[..SMALL_SIZES];
-        let mostly = if random.chance(300) { any } else { small };
+        let largest = &any[any.len() - LARGEST_SIZES..];
+        let mostly = random.pick(&[any, any, any, largest, largest, small, small, small, small]);
         let sizes = [random.pick(mostly), random.pick(mostly), random.pick(any)];
         CallMaker {
             pages,
@@ -94,6 +99,7 @@ impl CallMaker {
             globals: 1 + random.below(4),
             allocate_share: random.pick(&[30, 60, 250]),
             cycle_share: 50 + random.below(750),
+            lazy: random.chance(500),
             wild_share: random.pick(&[0, 0, 5, 30]),
             planned: None,
         }
@@ -107,7 +113,8 @@ impl CallMaker {
         if random.chance(self.wild_share) {
             return self.wild_call(random);
         }
-        if random.chance(self.cycle_share) {
+        let leaves_sweeping = self.lazy && root(roots, PHASE) == PHASE_SWEEP;
+        if random.chance(if leaves_sweeping { 30 } else { self.cycle_share }) {
             return self.cycle_call(random, roots);
         }
         if random.chance(3) {
@@ -119,7 +126,8 @@ impl CallMaker {
         }
         let record = self.record_slot(random, roots, stack);
         let nothing_there = root(roots, slot_place(stack as usize, record as usize)) == NIL;
-        if random.chance(self.allocate_share) || (nothing_there && random.chance(600)) {
+        let allocate_share = if leaves_sweeping { 500 } else { self.allocate_share };
+        if random.chance(allocate_share) || (nothing_there && random.chance(600)) {
             return self.allocation(random, stack, record);
         }
         if random.chance(250) {
@@ -221,6 +229,8 @@ impl CallMaker {
         let words = size / WORD_BYTES;
         let least = u64::from(self.one_kind);
         let pointers = random.pick(&[least, 1, 1, 2, 3, words, words / 2]).clamp(least, words);
+        // Now and then one word more than the size has.
+        let pointers = if random.chance(10) { words + 1 } else { pointers };
         Call::Allocate { pages: self.pages, stack, slot, size, pointers }
     }
 

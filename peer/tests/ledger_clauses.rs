@@ -4,8 +4,9 @@
 mod common;
 
 use common::{calls, Owned};
+use peer::faults::{BIRTH_BEFORE_FREES, FREES_NOT_COUNTED, NONE};
 use peer::ledger::{Broken, Checker};
-use peer::{apply, Answer, Call};
+use peer::{apply, Answer, Call, Refusal};
 
 /// A list that has passed so far.
 struct Passed {
@@ -26,6 +27,14 @@ impl Passed {
         let mut before = self.owned.clone();
         let answer = apply(call, self.owned.lend());
         self.checker.after(call, &answer, &before.lend(), self.owned.lend())
+    }
+
+    /// Tells the checker of a refused call that has changed something.
+    fn refused(&mut self, refusal: Refusal, change: fn(&mut Owned)) -> Result<(), Broken> {
+        let mut before = self.owned.clone();
+        change(&mut self.owned);
+        let call = Call::Clear { pages: self.owned.pages(), stack: 9, slot: 0 };
+        self.checker.after(&call, &Err(refusal), &before.lend(), self.owned.lend())
     }
 
     /// Tells the checker of a call without carrying it out.
@@ -146,4 +155,82 @@ fn mark_steps_are_counted() {
         assert_eq!(passed.claim(&step, Ok([8192, 0, 0])), Ok(()));
     }
     assert_eq!(passed.step(&calls(2, "F")[0]), Err(Broken::MarkSteps(3)));
+}
+
+/// A change of a word in each of the four buffers.
+const CHANGES: [fn(&mut Owned); 4] =
+    [|o| o.arena[9] ^= 1, |o| o.roots[2] ^= 1, |o| o.table[2] ^= 256, |o| o.bitmaps[20] ^= 1];
+
+/// One span, which is unswept.
+const FINISHED: &str = "H 2/O 0/A 0 0 8 0/A 0 1 8 0/Z 0 1/T/K 0/Q/F";
+
+#[test]
+fn refusals_change_no_word() {
+    for change in CHANGES {
+        for refusal in [Refusal::WrongPhase, Refusal::BadSize, Refusal::NoRoom] {
+            let expected = Err(Broken::RefusalChanged(refusal.number()));
+            assert_eq!(passed(2, TWO).refused(refusal, change), expected);
+        }
+        let expected = Err(Broken::RefusalChanged(5));
+        assert_eq!(passed(2, FINISHED).refused(Refusal::BadSize, change), expected);
+    }
+}
+
+#[test]
+fn no_room_changes_page_table_and_bitmaps_alone() {
+    for change in &CHANGES[..2] {
+        let expected = Err(Broken::RefusalChanged(9));
+        assert_eq!(passed(2, FINISHED).refused(Refusal::NoRoom, *change), expected);
+    }
+    let mut right = passed(2, FINISHED);
+    assert_eq!(right.step(&calls(2, "A 0 1 65536 0")[0]), Ok(()));
+}
+
+#[test]
+fn no_room_leaves_no_span_unswept() {
+    let mut passed = passed(2, FINISHED);
+    assert_eq!(passed.refused(Refusal::NoRoom, |_| {}), Err(Broken::LeftUnswept(0)));
+}
+
+#[test]
+fn allocations_free_only_what_was_born_and_once() {
+    for allocation in ["A 0 2 8 0", "A 0 2 65536 0"] {
+        let mut passed = passed(2, FINISHED);
+        // An allocated bit that no allocation has set.
+        passed.owned.bitmaps[0] |= 4;
+        let freed = passed.step(&calls(2, allocation)[0]);
+        assert_eq!(freed, Err(Broken::FreedTwice(8208)), "{allocation}");
+    }
+}
+
+/// What a checker finds in a list of the right heap, and at which call.
+fn found_by<const CHECKER: u8>(list: &str) -> Result<(), (usize, Broken)> {
+    let mut owned = Owned::zero(1);
+    let mut checker = Checker::<CHECKER>::default();
+    for (place, call) in calls(1, list).iter().enumerate() {
+        let mut before = owned.clone();
+        let answer = apply(call, owned.lend());
+        let checked = checker.after(call, &answer, &before.lend(), owned.lend());
+        checked.map_err(|broken| (place, broken))?;
+    }
+    Ok(())
+}
+
+/// Checkers that take the sweeps of an allocation for no part of the cycle, or
+/// its birth for the first thing that it does, find fault with the right heap.
+#[test]
+fn frees_of_an_allocation_count_and_come_first() {
+    let garbage = "H 1/O 0/A 0 0 8192 1/Z 0 0/T/K 0/Q/F";
+    let (given_again, refused) =
+        (format!("{garbage}/A 0 0 8192 1/E"), format!("{garbage}/A 0 0 40000 1/E"));
+    let not_freed = Err((9, Broken::NotFreed(8192)));
+    assert_eq!(found_by::<NONE>(&given_again), Ok(()));
+    assert_eq!(found_by::<NONE>(&refused), Ok(()));
+    assert_eq!(found_by::<FREES_NOT_COUNTED>(&given_again), not_freed);
+    assert_eq!(found_by::<FREES_NOT_COUNTED>(&refused), not_freed);
+    assert_eq!(found_by::<BIRTH_BEFORE_FREES>(&given_again), not_freed);
+    assert_eq!(found_by::<BIRTH_BEFORE_FREES>(&refused), Ok(()));
+    // The record that was born is freed in its turn.
+    let again = format!("{given_again}/Z 0 0/T/K 0/Q/F/E/E");
+    assert_eq!(found_by::<NONE>(&again), Ok(()));
 }

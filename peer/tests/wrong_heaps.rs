@@ -71,6 +71,8 @@ struct Wrong {
 fn wrong_heaps() -> Vec<Wrong> {
     let mut all = wrong_barriers_and_births();
     all.extend(wrong_sweeps());
+    all.extend(wrong_orders_of_sweeps());
+    all.extend(wrong_sweeps_of_allocations());
     all.extend(empty_promises());
     all
 }
@@ -144,6 +146,85 @@ fn wrong_sweeps() -> Vec<Wrong> {
     ]
 }
 
+/// Allocations that sweep other spans than they should, or in another order,
+/// or look for pages at another time. The ledger cannot tell.
+fn wrong_orders_of_sweeps() -> Vec<Wrong> {
+    vec![
+        wrong(
+            "sweeps spans of other kinds first",
+            apply_with_fault::<SWEEP_ANY_KIND>,
+            "H 2/O 0/A 0 0 4096 0/A 0 1 8 0/T/K 0/Q/F/A 0 2 8 0",
+            None,
+        ),
+        wrong(
+            "sweeps one span of the kind and no more",
+            apply_with_fault::<SWEEP_ONE_OF_KIND>,
+            "H 3/O 0/A 0 0 8192 0/A 0 1 4096 0/A 0 2 4096 0/A 0 3 4096 0/T/K 0/Q/F/A 0 4 4096 0",
+            None,
+        ),
+        wrong(
+            "looks for pages before it sweeps the kind",
+            apply_with_fault::<PAGES_BEFORE_KIND>,
+            "H 2/O 0/A 0 0 8 0/T/K 0/Q/F/A 0 1 8 0",
+            None,
+        ),
+        wrong(
+            "does not sweep large spans first for a large record",
+            apply_with_fault::<LARGE_SKIPS_KIND>,
+            "H 6/O 0/A 0 0 8 0/A 0 1 40960 0/Z 0 1/T/K 0/Q/F/A 0 2 40960 0",
+            None,
+        ),
+        wrong(
+            "sweeps all the rest before it looks for pages",
+            apply_with_fault::<LOOK_ONCE_AFTER_ALL>,
+            "H 2/O 0/A 0 0 4096 0/A 0 1 4096 1/Z 0 0/T/K 0/Q/N/F/A 0 2 8 0",
+            None,
+        ),
+        wrong(
+            "does not see free pages before the returned ones",
+            apply_with_fault::<LOOK_AFTER_RETURNED>,
+            "H 2/O 0/A 0 0 8192 0/A 0 1 8192 0/Z 0 0/Z 0 1/T/K 0/Q/F/A 0 2 16384 0",
+            None,
+        ),
+    ]
+}
+
+/// Allocations that sweep at the wrong time or leave something half done.
+fn wrong_sweeps_of_allocations() -> Vec<Wrong> {
+    vec![
+        wrong(
+            "gives out an element of returned pages",
+            apply_with_fault::<GIVE_RETURNED>,
+            "H 1/O 0/A 0 0 8192 1/Z 0 0/T/K 0/Q/F/A 0 0 8192 1",
+            Some(Broken::Audit),
+        ),
+        wrong(
+            "gives out a freed element and leaves its span unswept",
+            apply_with_fault::<LEAVE_SPAN_UNSWEPT>,
+            "H 1/O 0/A 0 0 4096 0/A 0 1 4096 0/Z 0 0/T/K 0/Q/F/A 0 0 4096 0",
+            Some(Broken::Audit),
+        ),
+        wrong(
+            "refuses what never fits without a sweep",
+            apply_with_fault::<REFUSE_UNSWEPT>,
+            "H 1/O 0/A 0 0 8 0/T/K 0/Q/F/A 0 1 16384 0",
+            Some(Broken::LeftUnswept(0)),
+        ),
+        wrong(
+            "sweeps before the size is tested",
+            apply_with_fault::<SWEEP_BEFORE_SIZE>,
+            "H 1/O 0/A 0 0 8 0/T/K 0/Q/F/A 0 1 0 0",
+            Some(Broken::RefusalChanged(5)),
+        ),
+        wrong(
+            "ends the cycle with its last sweep",
+            apply_with_fault::<END_CYCLE>,
+            "H 1/O 0/A 0 0 8192 1/Z 0 0/T/K 0/Q/F/A 0 0 8192 1",
+            Some(Broken::Phase(0)),
+        ),
+    ]
+}
+
 /// Calls that answer without doing their work, or the other way round.
 fn empty_promises() -> Vec<Wrong> {
     vec![
@@ -212,7 +293,7 @@ fn slow_heap_catches_wrong_heaps() {
 /// How many random lists it takes until the heap is caught.
 fn lists_until_caught(wrong: &Wrong, random: &mut Random, most: u64) -> Option<(u64, Caught)> {
     for list in 1..=most {
-        let pages = random.pick(&[1, 1, 2, 3]);
+        let pages = random.pick(&[1, 1, 2, 3, 7]);
         let mut maker = CallMaker::new(random, pages);
         let mut harness = match wrong.broken {
             Some(_) => Harness::ledger_only(Owned::random(pages, random), wrong.heap),

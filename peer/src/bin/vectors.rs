@@ -1,18 +1,18 @@
 //! Writes test vectors: `vectors SEED COUNT` prints COUNT random lists of calls
-//! on one page. Each list begins with a line `list N` and with buffers that
-//! are all zero. Then there is one line for each call, in three parts with
-//! ` ; ` between them: the call as a trace line (`V` is the audit), the answer
-//! (`ok` and three values, or `no` and the refusal), and the words that changed
-//! with their new values (`a` arena, `t` page table, `b` bitmaps, `r` roots, as
-//! in `r560=1`).
+//! on one page, in each of which an accepted allocation sweeps and frees. Each
+//! list begins with a line `list N` and with buffers that are all zero. Then
+//! there is one line for each call, in three parts with ` ; ` between them: the
+//! call as a trace line (`V` is the audit), the answer (`ok` and three values,
+//! or `no` and the refusal), and the words that changed with their new values
+//! (`a` arena, `t` page table, `b` bitmaps, `r` roots, as in `r560=1`).
 
 use std::fmt::Display;
 use std::io::{self, BufWriter, Write};
 use std::process::ExitCode;
 
-use peer::layout::{arena_words, bitmap_words, table_numbers, ROOT_WORDS};
+use peer::layout::*;
 use peer::random::{CallMaker, Random};
-use peer::{apply, Buffers, Call};
+use peer::{apply, Answer, Buffers, Call};
 
 const PAGES: u64 = 1;
 
@@ -39,18 +39,30 @@ fn main() -> ExitCode {
     }
 }
 
+/// Writes the next random list in which an accepted allocation frees.
 fn write_list(output: &mut impl Write, random: &mut Random, list: u64) -> io::Result<()> {
+    let mut lines = Vec::new();
+    while !random_list(&mut lines, random)? {
+        lines.clear();
+    }
+    writeln!(output, "list {list}")?;
+    output.write_all(&lines)
+}
+
+/// Writes the lines of a random list; gives whether an accepted allocation has
+/// freed something.
+fn random_list(lines: &mut Vec<u8>, random: &mut Random) -> io::Result<bool> {
     let mut memory = Memory {
         arena: vec![0; arena_words(PAGES)],
         table: vec![0; table_numbers(PAGES)],
         bitmaps: vec![0; bitmap_words(PAGES)],
         roots: vec![0; ROOT_WORDS],
     };
-    writeln!(output, "list {list}")?;
     let mut maker = CallMaker::new(random, PAGES);
-    let length = 10 + random.below(60);
+    let length = 10 + random.below(11);
     // Some lists begin with a call on buffers that were never set up.
     let setup_place = u64::from(random.chance(200));
+    let mut frees = false;
     for place in 0..length {
         let call = if place == setup_place {
             Call::Setup { pages: PAGES }
@@ -61,13 +73,24 @@ fn write_list(output: &mut impl Write, random: &mut Random, list: u64) -> io::Re
         };
         // Only the line of a setup shows its P.
         if call.pages() == PAGES || matches!(call, Call::Setup { .. }) {
-            write_call(output, &mut memory, &call)?;
+            let garbage = memory.has_garbage();
+            let answer = write_call(lines, &mut memory, &call)?;
+            let allocated = matches!(call, Call::Allocate { .. }) && answer.is_ok();
+            frees |= allocated && garbage && !memory.has_garbage();
         }
     }
-    Ok(())
+    Ok(frees)
 }
 
-fn write_call(output: &mut impl Write, memory: &mut Memory, call: &Call) -> io::Result<()> {
+impl Memory {
+    /// Whether the page has an unswept span with an element that is to be freed.
+    fn has_garbage(&self) -> bool {
+        let (allocated, marked) = self.bitmaps[..2 * PAGE_BITMAP_WORDS].split_at(PAGE_BITMAP_WORDS);
+        self.table[ENTRY_KIND] & UNSWEPT != 0 && allocated != marked
+    }
+}
+
+fn write_call(output: &mut impl Write, memory: &mut Memory, call: &Call) -> io::Result<Answer> {
     let before = memory.clone();
     let buffers = Buffers {
         arena: &mut memory.arena,
@@ -87,7 +110,8 @@ fn write_call(output: &mut impl Write, memory: &mut Memory, call: &Call) -> io::
     write_changes(output, 't', &before.table, &memory.table)?;
     write_changes(output, 'b', &before.bitmaps, &memory.bitmaps)?;
     write_changes(output, 'r', &before.roots, &memory.roots)?;
-    writeln!(output)
+    writeln!(output)?;
+    Ok(answer)
 }
 
 fn write_changes<T: PartialEq + Display>(
