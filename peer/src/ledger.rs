@@ -401,12 +401,11 @@ fn freed_words(before: &Buffers<'_>, after: &Buffers<'_>) -> Vec<Word> {
     let turned_off = allocated.iter().zip(&after.bitmaps[..part]).map(|(old, new)| old & !new);
     let mut freed: Vec<u64> = turned_off.collect();
     let still_unswept: Vec<_> = unswept_spans(after.table).collect();
-    for (start, pages) in unswept_spans(before.table).filter(|span| !still_unswept.contains(span)) {
-        let (first, end) = (Page::new(start), Page::new(start + pages));
-        for place in first.first_bitmap_word()..end.first_bitmap_word() {
-            freed[place] |= allocated[place] & !marked[place];
-        }
-    }
+    let swept = unswept_spans(before.table).filter(|span| !still_unswept.contains(span));
+    let bitmap_words = swept.flat_map(|(start, pages)| {
+        Page::new(start).first_bitmap_word()..Page::new(start + pages).first_bitmap_word()
+    });
+    bitmap_words.for_each(|place| freed[place] |= allocated[place] & !marked[place]);
     let words = (0..part * BITMAP_BITS).map(Word::new);
     words.filter(|&word| bit(&freed, word)).collect()
 }

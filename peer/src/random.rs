@@ -105,6 +105,11 @@ impl CallMaker {
         }
     }
 
+    /// The sizes that the list allocates.
+    pub fn sizes(&self) -> &[u64] {
+        &self.sizes
+    }
+
     /// The next call, in view of what the roots hold now.
     pub fn next(&mut self, random: &mut Random, roots: &[u64]) -> Call {
         if let Some(call) = self.planned.take() {
@@ -114,7 +119,7 @@ impl CallMaker {
             return self.wild_call(random);
         }
         let leaves_sweeping = self.lazy && root(roots, PHASE) == PHASE_SWEEP;
-        if random.chance(if leaves_sweeping { 30 } else { self.cycle_share }) {
+        if random.chance(if leaves_sweeping { 100 } else { self.cycle_share }) {
             return self.cycle_call(random, roots);
         }
         if random.chance(3) {

@@ -1,8 +1,9 @@
 //! Heaps that are built without calls: spans, records, marks and roots written
 //! straight into the memory. Random ones have spans of every class in every
-//! phase, also heaps that no list of calls leads to but the audit accepts.
+//! phase, also heaps that no list of calls leads to but the audit accepts, and
+//! some are made for allocations that have to sweep.
 
-use peer::classes::{CLASSES, LARGE_PAGES_MAX, LARGE_PAGES_MIN};
+use peer::classes::{class_of, CLASSES, LARGE_PAGES_MAX, LARGE_PAGES_MIN};
 use peer::layout::*;
 use peer::random::Random;
 
@@ -86,40 +87,78 @@ struct RandomHeap<'a> {
     random: &'a mut Random,
     builder: Builder,
     phase: u64,
-    /// How many elements are allocated or marked, in a thousand.
+    /// Classes that many spans have.
+    favourites: Vec<usize>,
+    /// How many pages are free, how many spans noscan or unswept, and how many
+    /// elements allocated or marked, in a thousand.
+    free_share: u64,
+    noscan_share: u64,
+    unswept_share: u64,
     allocated_share: u64,
     marked_share: u64,
+    /// Whether each span has shares of its own.
+    varied: bool,
     records: Vec<Record>,
 }
 
 /// A random heap of P pages that the audit accepts, with room behind it.
 pub fn random_heap(random: &mut Random, pages: u64, room: u64) -> Memory {
     let phase = random.below(3);
-    let builder = Builder::new(pages, room, phase);
-    let allocated_share = random.pick(&[20, 500, 980]);
-    let marked_share = random.pick(&[20, 500, 980]);
-    let records = Vec::new();
-    let mut heap = RandomHeap { random, builder, phase, allocated_share, marked_share, records };
-    heap.spans(pages as usize);
-    let kept = heap.kept_addresses();
-    heap.fill_records(&kept);
-    heap.fill_roots(&kept);
-    heap.builder.memory
+    let heap = RandomHeap {
+        builder: Builder::new(pages, room, phase),
+        phase,
+        favourites: vec![1 + random.below(CLASSES.len() as u64) as usize],
+        free_share: random.pick(&[50, 300]),
+        noscan_share: 300,
+        unswept_share: 600,
+        allocated_share: random.pick(&[20, 500, 980]),
+        marked_share: random.pick(&[20, 500, 980]),
+        varied: false,
+        records: Vec::new(),
+        random,
+    };
+    heap.build(pages as usize)
+}
+
+/// A random heap of the sweep phase: few pages are free, most spans unswept,
+/// and many have a class of these sizes. Some will be full after their sweep,
+/// some returned whole.
+pub fn unswept_heap(random: &mut Random, pages: u64, room: u64, sizes: &[u64]) -> Memory {
+    let heap = RandomHeap {
+        builder: Builder::new(pages, room, PHASE_SWEEP),
+        phase: PHASE_SWEEP,
+        favourites: sizes.iter().map(|&size| class_of(size)).collect(),
+        free_share: random.pick(&[0, 0, 50, 300]),
+        noscan_share: random.pick(&[0, 300]),
+        unswept_share: 950,
+        allocated_share: 0,
+        marked_share: 0,
+        varied: true,
+        records: Vec::new(),
+        random,
+    };
+    heap.build(pages as usize)
 }
 
 impl RandomHeap<'_> {
+    fn build(mut self, pages: usize) -> Memory {
+        self.spans(pages);
+        let kept = self.kept_addresses();
+        self.fill_records(&kept);
+        self.fill_roots(&kept);
+        self.builder.memory
+    }
+
     fn spans(&mut self, pages: usize) {
-        let free_share = self.random.pick(&[50, 300]);
-        let favourite = 1 + self.random.below(CLASSES.len() as u64) as usize;
         let mut page = 0;
         while page < pages {
-            let class = match self.random.below(4) {
-                0 => favourite,
+            let class = match self.random.below(if self.varied { 2 } else { 4 }) {
+                0 => self.random.pick(&self.favourites),
                 1 => self.random.below(12) as usize,
                 _ => self.random.below(CLASSES.len() as u64 + 1) as usize,
             };
             let count = self.span_pages(class);
-            if self.random.chance(free_share) || count > pages - page {
+            if self.random.chance(self.free_share) || count > pages - page {
                 page += 1;
                 continue;
             }
@@ -140,8 +179,12 @@ impl RandomHeap<'_> {
     }
 
     fn span(&mut self, start: usize, pages: usize, class: usize) {
-        let noscan = self.random.chance(300);
-        let unswept = self.phase == PHASE_SWEEP && self.random.chance(600);
+        if self.varied {
+            self.allocated_share = self.random.pick(&[20, 500, 1000]);
+            self.marked_share = self.random.pick(&[0, 0, 500, 1000]);
+        }
+        let noscan = self.random.chance(self.noscan_share);
+        let unswept = self.phase == PHASE_SWEEP && self.random.chance(self.unswept_share);
         let flag = if unswept { UNSWEPT } else { 0 };
         self.builder.span(start, pages, 2 * class as u32 + u32::from(noscan) + flag);
         let words = match class {

@@ -1,6 +1,6 @@
 //! Random lists of calls, carried out by two heaps on memory of their own. A
-//! list may begin on buffers that hold anything, on empty ones or on a random
-//! heap; it has calls with any numbers, wrong lengths, a wrong P, and damage
+//! list may begin on buffers that hold anything, on empty ones, on a random
+//! heap or on one that is to be swept; it has calls with any numbers, wrong lengths, a wrong P, and damage
 //! that is done to both memories and perhaps undone some calls later. After
 //! each call the answers and every word of the two memories have to be equal.
 
@@ -12,18 +12,21 @@ use peer::random::{CallMaker, Random};
 use peer::Call;
 
 use crate::damage::{fill_with_anything, random_change, Change};
-use crate::heaps::random_heap;
+use crate::heaps::{random_heap, unswept_heap};
 use crate::lines::with_one_number_changed;
 use crate::memory::{lengths, Lengths, Memory};
 use crate::pair::{Difference, Memories, Pair};
 use crate::proved::Numbers;
+use crate::ways::{Before, Ways};
 
-/// How often each call met each refusal in each phase.
+/// How often each call met each refusal in each phase, and each way of an
+/// allocation was taken.
 #[derive(Default)]
 pub struct Visits {
     pub calls: u64,
     pub cycles: u64,
     pub damages: u64,
+    pub ways: Ways,
     seen: HashMap<(std::mem::Discriminant<Call>, u64, u64), (Call, u64)>,
 }
 
@@ -70,11 +73,15 @@ struct List {
 }
 
 impl List {
-    fn new(random: Random, pages: u64) -> List {
+    fn new(random: Random, pages: u64, unswept: bool) -> List {
         let mut random = random;
         let maker = CallMaker::new(&mut random, pages);
         let room = pages + random.below(2);
-        let (memory, setup_at) = first_memory(&mut random, pages, room);
+        let (memory, setup_at) = if unswept {
+            (unswept_heap(&mut random, pages, room, maker.sizes()), None)
+        } else {
+            first_memory(&mut random, pages, room)
+        };
         List {
             maker,
             pages,
@@ -96,13 +103,25 @@ impl List {
         let call = self.next_call(step);
         let lengths = self.next_lengths(&call);
         let phase = self.memories.plain.roots()[PHASE];
+        let before = self.before(&call, lengths);
         let result = self.memories.carry_out(&call, lengths, pair);
         let answer = match &result {
             Ok(answer) => answer,
             Err(difference) => &difference.plain,
         };
         visits.count(&call, phase, answer);
+        if let Some(before) = before {
+            let table = self.memories.plain.lend(lengths).table;
+            visits.ways.count(&before.ways(&call, answer, table));
+        }
         result.map(|_| ())
+    }
+
+    /// What an allocation finds, if the lengths are those that it asks for.
+    fn before(&mut self, call: &Call, lengths: Lengths) -> Option<Before> {
+        let lent = self.memories.plain.lend(lengths);
+        let allocates = matches!(call, Call::Allocate { .. }) && lent.fit(call.pages());
+        allocates.then(|| Before::new(&lent))
     }
 
     fn next_call(&mut self, step: u64) -> Call {
@@ -190,6 +209,11 @@ fn extent(random: &mut Random) -> (u64, u64) {
     (pages, length)
 }
 
+/// The same for a list on a heap that is to be swept, which does not last.
+fn unswept_extent(random: &mut Random) -> (u64, u64) {
+    (random.pick(&[1, 2, 3, 4, 6, 9, 13, 20]), 5 + random.below(40))
+}
+
 /// Carries out the list of this number; the same seed gives the same list.
 pub fn run_list(
     seed: u64,
@@ -198,8 +222,9 @@ pub fn run_list(
     visits: &mut Visits,
 ) -> Result<(), Box<Difference>> {
     let mut random = Random::new(Random::new(seed).number() ^ Random::new(list).number());
-    let (pages, length) = extent(&mut random);
-    let mut running = List::new(random, pages);
+    let unswept = random.chance(300);
+    let (pages, length) = if unswept { unswept_extent(&mut random) } else { extent(&mut random) };
+    let mut running = List::new(random, pages, unswept);
     for step in 0..length {
         running.step(step, pair, visits)?;
     }

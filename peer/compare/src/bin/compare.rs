@@ -33,6 +33,8 @@ const SELF_CHECK_LISTS: u64 = 20_000;
 /// sweep step; the other thirteen calls have three.
 const ACCEPTED_IN_PHASE: usize = 13 * 3 + 4 + 1 + 1;
 const CYCLES: u64 = 500;
+/// 0 for accepted calls, and each refusal of a call.
+const REFUSALS: [u64; 11] = [0, 1, 2, 3, 4, 5, 6, 7, 9, 10, 12];
 
 fn main() -> ExitCode {
     let options = Options::read(USAGE, &["seed", "calls", "list"], &["self-check"]);
@@ -101,22 +103,26 @@ fn many_lists(seed: u64, calls: u64) -> bool {
     let seconds = begin.elapsed().as_secs_f64();
     println!("{} calls in {lists} lists, {seconds:.1} s, no difference", visits.calls);
     println!("{} damages, {} cycles ended", visits.damages, visits.cycles);
-    for refusal in (0..=10).chain([12]) {
+    for refusal in REFUSALS {
         println!("refusal {refusal}: {}", visits.refusals(refusal));
     }
+    print!("allocations of the sweep phase:\n{}", visits.ways);
     calls < ENOUGH_CALLS || been_everywhere(&visits)
 }
 
-/// Whether each call was accepted in each of its phases and each refusal was
-/// met.
+/// Whether each call was accepted in each of its phases, each refusal was met
+/// and each way of an allocation was taken.
 fn been_everywhere(visits: &Visits) -> bool {
-    let refusals = (0..=10).chain([12]).all(|refusal| visits.refusals(refusal) > 0);
+    let refusals = REFUSALS.iter().all(|&refusal| visits.refusals(refusal) > 0);
     let accepted = visits.accepted_in_phase();
-    let everywhere =
-        refusals && accepted == ACCEPTED_IN_PHASE && visits.cycles >= CYCLES && visits.damages > 0;
+    let everywhere = refusals
+        && accepted == ACCEPTED_IN_PHASE
+        && visits.cycles >= CYCLES
+        && visits.damages > 0
+        && visits.ways.all_taken(1);
     if !everywhere {
-        println!("the lists have not been everywhere: {accepted} of {ACCEPTED_IN_PHASE} calls");
-        println!("in their phases were accepted, or a refusal, damage or cycles are missing");
+        println!("the lists have not been everywhere: {accepted} of {ACCEPTED_IN_PHASE} calls in");
+        println!("their phases were accepted, or a refusal, a way, damage or cycles are missing");
     }
     everywhere
 }
@@ -197,28 +203,43 @@ fn last_size_short(call: &Call, lent: Buffers<'_>) -> Numbers {
     })
 }
 
+/// Wrong heaps that random lists find out.
+const WRONG_HEAPS: [(&str, Heap); 21] = [
+    ("shades only the new value", with_fault::<SHADE_ONLY_NEW>),
+    ("shades only the old value", with_fault::<SHADE_ONLY_OLD>),
+    ("allocates white", with_fault::<ALLOCATE_WHITE>),
+    ("allocates in unswept spans", with_fault::<ALLOCATE_IN_UNSWEPT>),
+    ("keeps pointer bits", with_fault::<KEEP_POINTER_BITS>),
+    ("keeps old words", with_fault::<KEEP_OLD_WORDS>),
+    ("returns pages early", with_fault::<RETURN_PAGES_EARLY>),
+    ("sweeps other kinds first", with_fault::<SWEEP_ANY_KIND>),
+    ("sweeps one span of the kind", with_fault::<SWEEP_ONE_OF_KIND>),
+    ("looks for pages before the kind", with_fault::<PAGES_BEFORE_KIND>),
+    ("passes over large spans", with_fault::<LARGE_SKIPS_KIND>),
+    ("gives out returned pages", with_fault::<GIVE_RETURNED>),
+    ("gives out and leaves unswept", with_fault::<LEAVE_SPAN_UNSWEPT>),
+    ("sweeps all before it looks", with_fault::<LOOK_ONCE_AFTER_ALL>),
+    ("looks after the returned pages", with_fault::<LOOK_AFTER_RETURNED>),
+    ("refuses without sweeping", with_fault::<REFUSE_UNSWEPT>),
+    ("sweeps before it tests the size", with_fault::<SWEEP_BEFORE_SIZE>),
+    ("ends the cycle by itself", with_fault::<END_CYCLE>),
+    ("gives a value with a refusal", value_with_refusal),
+    ("changes a word with a refusal", change_with_refusal),
+    ("refuses in the wrong order", slot_before_stack),
+];
+
+/// Wrong heaps that records of every size find out.
+const WRONG_LOOKUPS: [(&str, Heap); 4] = [
+    ("rounds sizes down to whole entries", rounded_down),
+    ("looks 1,025 up one entry late", entry_late),
+    ("gives 1,024 the next class", border_too_low),
+    ("gives 32,768 pages of its own", last_size_short),
+];
+
 /// Whether each wrong heap is found out.
 fn self_check(seed: u64) -> bool {
-    let wrong_heaps: [(&str, Heap); 10] = [
-        ("shades only the new value", with_fault::<SHADE_ONLY_NEW>),
-        ("shades only the old value", with_fault::<SHADE_ONLY_OLD>),
-        ("allocates white", with_fault::<ALLOCATE_WHITE>),
-        ("allocates in unswept spans", with_fault::<ALLOCATE_IN_UNSWEPT>),
-        ("keeps pointer bits", with_fault::<KEEP_POINTER_BITS>),
-        ("keeps old words", with_fault::<KEEP_OLD_WORDS>),
-        ("returns pages early", with_fault::<RETURN_PAGES_EARLY>),
-        ("gives a value with a refusal", value_with_refusal),
-        ("changes a word with a refusal", change_with_refusal),
-        ("refuses in the wrong order", slot_before_stack),
-    ];
-    let wrong_lookups: [(&str, Heap); 4] = [
-        ("rounds sizes down to whole entries", rounded_down),
-        ("looks 1,025 up one entry late", entry_late),
-        ("gives 1,024 the next class", border_too_low),
-        ("gives 32,768 pages of its own", last_size_short),
-    ];
-    let by_lists = wrong_heaps.map(|(name, plain)| found_by_lists(seed, name, plain));
-    let by_sizes = wrong_lookups.map(|(name, plain)| found_by_sizes(name, plain));
+    let by_lists = WRONG_HEAPS.map(|(name, plain)| found_by_lists(seed, name, plain));
+    let by_sizes = WRONG_LOOKUPS.map(|(name, plain)| found_by_sizes(name, plain));
     by_lists.into_iter().chain(by_sizes).all(|found| found)
 }
 

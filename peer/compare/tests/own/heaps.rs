@@ -1,10 +1,11 @@
 //! The random heaps that lists begin on: the plain audit accepts them all, they
-//! have spans of every kind, and random damage to them is mostly noticed.
+//! have spans of every kind, those that are to be swept have unswept ones, and
+//! random damage is mostly noticed.
 
 use std::collections::HashSet;
 
 use compare::damage::random_change;
-use compare::heaps::random_heap;
+use compare::heaps::{random_heap, unswept_heap};
 use compare::memory::{lengths, Memory};
 use peer::layout::{ENTRY_NUMBERS, UNSWEPT};
 use peer::random::Random;
@@ -33,6 +34,23 @@ fn random_heaps_are_accepted_and_have_every_kind() {
     }
     assert!((0..134).all(|kind| seen.contains(&kind)));
     assert!((0..134).all(|kind| seen.contains(&(kind + UNSWEPT))));
+}
+
+#[test]
+fn unswept_heaps_are_accepted_and_to_be_swept() {
+    let mut random = Random::new(5);
+    let (mut spans, mut unswept, mut wanted) = (0, 0, 0);
+    for _ in 0..500 {
+        let pages = random.pick(&[1, 2, 5, 13, 40]);
+        let mut memory = unswept_heap(&mut random, pages, pages, &[4096, 24]);
+        assert!(audit(&mut memory, pages));
+        for kind in kinds(&mut memory, pages) {
+            spans += 1;
+            unswept += u64::from(kind >= UNSWEPT);
+            wanted += u64::from([6, 7, 86, 87].contains(&(kind % UNSWEPT)));
+        }
+    }
+    assert!(unswept > spans * 9 / 10 && wanted > spans / 2, "{spans} {unswept} {wanted}");
 }
 
 #[test]
