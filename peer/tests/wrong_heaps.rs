@@ -290,14 +290,15 @@ fn slow_heap_catches_wrong_heaps() {
     }
 }
 
-/// How many random lists it takes until the heap is caught.
+/// How many random lists it takes until the heap is caught, by the ledger where
+/// that can tell.
 fn lists_until_caught(wrong: &Wrong, random: &mut Random, most: u64) -> Option<(u64, Caught)> {
     for list in 1..=most {
         let pages = random.pick(&[1, 1, 2, 3, 7]);
         let mut maker = CallMaker::new(random, pages);
         let mut harness = match wrong.broken {
             Some(_) => Harness::ledger_only(Owned::random(pages, random), wrong.heap),
-            None => Harness::new(Owned::random(pages, random), wrong.heap),
+            None => Harness::beside_right_heap(Owned::random(pages, random), wrong.heap),
         };
         let mut call = Call::Setup { pages };
         for _ in 0..300 {

@@ -112,10 +112,17 @@ pub enum Caught {
     Ledger(Broken),
     /// The two audits differ.
     Audit,
-    /// The answer is not the slow heap's, which is this one.
+    /// The answer is not the other heap's, which is this one.
     Answer(slow::Outcome),
-    /// The buffers are not the slow heap's.
+    /// The buffers are not the other heap's.
     Buffers,
+}
+
+/// What a heap is held against, besides the ledger.
+enum Judge {
+    Nothing,
+    SlowHeap,
+    RightHeap,
 }
 
 pub type HeapUnderTest = fn(&Call, Buffers<'_>) -> Answer;
@@ -125,18 +132,24 @@ pub struct Harness {
     pub owned: Owned,
     heap: HeapUnderTest,
     checker: Checker,
-    with_slow_heap: bool,
+    judge: Judge,
 }
 
 impl Harness {
     /// Tests a heap by the ledger and by the slow heap.
     pub fn new(owned: Owned, heap: HeapUnderTest) -> Harness {
-        Harness { owned, heap, checker: Checker::default(), with_slow_heap: true }
+        Harness { owned, heap, checker: Checker::default(), judge: Judge::SlowHeap }
     }
 
     /// Tests a heap by the ledger alone.
     pub fn ledger_only(owned: Owned, heap: HeapUnderTest) -> Harness {
-        Harness { with_slow_heap: false, ..Harness::new(owned, heap) }
+        Harness { judge: Judge::Nothing, ..Harness::new(owned, heap) }
+    }
+
+    /// Tests a wrong heap by the ledger and by the right one, which is quicker
+    /// than the slow one.
+    pub fn beside_right_heap(owned: Owned, heap: HeapUnderTest) -> Harness {
+        Harness { judge: Judge::RightHeap, ..Harness::new(owned, heap) }
     }
 
     pub fn step(&mut self, call: &Call) -> Result<Answer, Caught> {
@@ -144,17 +157,24 @@ impl Harness {
         let answer = (self.heap)(call, self.owned.lend());
         let checked = self.checker.after(call, &answer, &before.lend(), self.owned.lend());
         checked.map_err(Caught::Ledger)?;
-        if self.with_slow_heap {
-            if self.owned.audit() != slow::broken_clause(&self.owned).is_none() {
-                return Err(Caught::Audit);
+        let (outcome, after) = match self.judge {
+            Judge::Nothing => return Ok(answer),
+            Judge::SlowHeap => {
+                if self.owned.audit() != slow::broken_clause(&self.owned).is_none() {
+                    return Err(Caught::Audit);
+                }
+                slow::predict(call, &before)
             }
-            let (outcome, after) = slow::predict(call, &before);
-            if outcome != answer.map_err(|refusal| refusal.number()) {
-                return Err(Caught::Answer(outcome));
+            Judge::RightHeap => {
+                let right = peer::apply(call, before.lend());
+                (right.map_err(|refusal| refusal.number()), before)
             }
-            if self.owned != after {
-                return Err(Caught::Buffers);
-            }
+        };
+        if outcome != answer.map_err(|refusal| refusal.number()) {
+            return Err(Caught::Answer(outcome));
+        }
+        if self.owned != after {
+            return Err(Caught::Buffers);
         }
         Ok(answer)
     }
