@@ -1,8 +1,9 @@
 //! A collected heap over memory that the caller lends: size classes and spans,
 //! tri-colour marking with a barrier that shades the old and the new value, and
-//! a sweep that goes span by span. `layout` says where everything lies, `calls`
-//! is the way in. `ledger` checks a list of calls from outside, and `trace`
-//! plays a list of calls that is written down as text.
+//! a sweep that goes span by span, a step at a time or where an allocation needs
+//! room. `layout` says where everything lies, `calls` is the way in. `ledger`
+//! checks a list of calls from outside, and `trace` plays a list of calls that
+//! is written down as text.
 
 mod allocation;
 mod audit;

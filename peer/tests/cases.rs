@@ -173,9 +173,10 @@ fn nil_is_only_asked_of_the_record() {
     assert_eq!(answers(1, text), [0, 0, 8192, 0, 0, 0, 0, 6, 6, 6, 6, 0]);
 }
 
-/// The scope's refusal 8, sweep first, is taken back by request 2: the first
-/// allocation in the sweep phase was 8 and now is 9, with the span swept. The
-/// sweep step after it ends the cycle.
+/// The scope's refusal 8, sweep first, is gone with request 2. No case of the
+/// scope's table and no line of its whole case has an 8; this list had two, for
+/// its first allocations in the sweep phase. They now are 9 and leave the span
+/// swept, so that the sweep step after them ends the cycle.
 #[test]
 fn no_room_where_8_was() {
     let text = "H 1/O 0/A 0 0 8192 0/T/K 0/Q/F/A 0 1 8 0/A 0 1 1048576 0/E/A 0 1 8 0/E/A 0 1 8 0";

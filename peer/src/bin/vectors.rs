@@ -15,6 +15,9 @@ use peer::random::{CallMaker, Random};
 use peer::{apply, Answer, Buffers, Call};
 
 const PAGES: u64 = 1;
+/// No record is larger: the prover computes the definitions on each list, and
+/// they go by single words.
+const MAX_BYTES: u64 = 64;
 
 #[derive(Clone)]
 struct Memory {
@@ -39,7 +42,7 @@ fn main() -> ExitCode {
     }
 }
 
-/// Writes the next random list in which an accepted allocation frees.
+/// Writes the next random list that will do.
 fn write_list(output: &mut impl Write, random: &mut Random, list: u64) -> io::Result<()> {
     let mut lines = Vec::new();
     while !random_list(&mut lines, random)? {
@@ -49,8 +52,8 @@ fn write_list(output: &mut impl Write, random: &mut Random, list: u64) -> io::Re
     output.write_all(&lines)
 }
 
-/// Writes the lines of a random list; gives whether an accepted allocation has
-/// freed something.
+/// Writes the lines of a random list; gives whether it will do: an accepted
+/// allocation has freed something, and all records are small.
 fn random_list(lines: &mut Vec<u8>, random: &mut Random) -> io::Result<bool> {
     let mut memory = Memory {
         arena: vec![0; arena_words(PAGES)],
@@ -62,7 +65,7 @@ fn random_list(lines: &mut Vec<u8>, random: &mut Random) -> io::Result<bool> {
     let length = 10 + random.below(11);
     // Some lists begin with a call on buffers that were never set up.
     let setup_place = u64::from(random.chance(200));
-    let mut frees = false;
+    let (mut frees, mut largest) = (false, 0);
     for place in 0..length {
         let call = if place == setup_place {
             Call::Setup { pages: PAGES }
@@ -75,11 +78,13 @@ fn random_list(lines: &mut Vec<u8>, random: &mut Random) -> io::Result<bool> {
         if call.pages() == PAGES || matches!(call, Call::Setup { .. }) {
             let garbage = memory.has_garbage();
             let answer = write_call(lines, &mut memory, &call)?;
-            let allocated = matches!(call, Call::Allocate { .. }) && answer.is_ok();
-            frees |= allocated && garbage && !memory.has_garbage();
+            if let (Call::Allocate { size, .. }, Ok(_)) = (call, answer) {
+                frees |= garbage && !memory.has_garbage();
+                largest = largest.max(size);
+            }
         }
     }
-    Ok(frees)
+    Ok(frees && largest <= MAX_BYTES)
 }
 
 impl Memory {
