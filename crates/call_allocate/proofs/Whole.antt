@@ -25,8 +25,6 @@ use Rattle.model.proofs.Checks.{orElse-iff, allocate-passed, room-passed}
 use Rattle.keeps.proofs.Swept.{sweeps-kept}
 use Rattle.model.proofs.Outcomes.{refused}
 use Rattle.page_runs.proofs.Allocate.{best-fits}
-use Rattle.classes.specs.Shape.{Shaped}
-use Rattle.classes.specs.declared.Shape.{Shape}
 use Rattle.page_entries.specs.Needs.{NewEntries}
 use Rattle.record_room.specs.Needs.{Found, PlaceFor}
 use Rattle.record_room.specs.declared.RecordPlace.{RecordPlace}

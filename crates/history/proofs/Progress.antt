@@ -1,7 +1,7 @@
 -- Every cycle can be brought to its end: in the mark phase some scan or mark step lowers what is left to mark until finish is accepted; in the sweep
 -- phase each sweep step leaves one unswept span less.
 use Prim.Native.Nat.{ℕ, zero, suc, _+_, _≤_, _<_}
-use mathlib.Core.Bool.{Bool, true, false, not, cond, _&&_, _||_}
+use mathlib.Core.Bool.{Bool, true, false, cond, _||_}
 use mathlib.Core.List.{List, [], _∷_}
 use mathlib.Core.Logic.{_⊎_, inl, inr, _≢_}
 use mathlib.Core.Path.{_≡_, refl, _∙_}

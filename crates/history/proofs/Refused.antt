@@ -3,10 +3,8 @@
 use Prim.Native.Nat.{ℕ, _+_}
 use mathlib.Core.Bool.{Bool, true, false, not, cond}
 use mathlib.Core.Logic.{_≢_}
-use mathlib.Core.Path.{_≡_, refl, sym, _∙_}
-use native.Mathlib.Omega.{arith}
+use mathlib.Core.Path.{_≡_, refl}
 use lib.Dec.{eqb, ltb}
-use borrow.Author.Tests.{eqb-true, eqb-false, ne-eqb}
 use Rattle.model.specs.Memory.{Heap, choose, setRoot, addressOf, phaseAt, off, mark, sweep}
 use Rattle.model.specs.Answers.{Outcome, outcome, refusal, _given_, _orElse_, noRoom}
 use Rattle.model.specs.Classes.{kindOf, pagesFor}

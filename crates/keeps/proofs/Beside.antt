@@ -2,21 +2,21 @@
 -- and where the span stays the free pages are those that were. So a search need not go back over what it has passed.
 use Prim.Native.Nat.{ℕ, _+_, _-_, _*_, _<_, _≤_}
 use mathlib.Core.List.{List}
-use mathlib.Core.Bool.{Bool, true, false, not, cond, _&&_, true≢false}
+use mathlib.Core.Bool.{Bool, true, false, not, _&&_, true≢false}
 use mathlib.Core.Logic.{_≢_}
 use mathlib.Core.Path.{_≡_, refl, ap, sym, _∙_, fun-ext}
 use native.Mathlib.Omega.{arith}
 use lib.Dec.{T, eqb, ltb}
-use borrow.Author.Tests.{ne-eqb, eqb-true, eqb-false, ltb-true, ltb-false, lt-ltb, le-ltb}
+use borrow.Author.Tests.{ne-eqb, eqb-true, eqb-false, ltb-true, ltb-false, lt-ltb}
 use Rattle.model.specs.Memory.{Heap, pageWords, unsweptFlag}
 use Rattle.model.specs.Bounded.{allBelow}
 use Rattle.model.specs.Bitmaps.{allocated, is}
-use Rattle.model.specs.Spans.{owner, pageCount, kindEntry, kindAt, isFree, startsSpan, isUnswept, elements, elementStart}
+use Rattle.model.specs.Spans.{owner, pageCount, kindEntry, kindAt, startsSpan, isUnswept, elements, elementStart}
 use Rattle.model.specs.Cycle.{sweptTable, sweptSpan, nothingLeft}
-use Rattle.model.specs.Allocate.{freeElement, hasRoom, spanWithRoom, runLength, isRun, isShortest, bestRun, elementFree, pagesFree, ofKind, nextUnswept}
+use Rattle.model.specs.Allocate.{freeElement, hasRoom, spanWithRoom, runLength, isRun, isShortest, bestRun, elementFree, pagesFree, nextUnswept}
 use Rattle.model.specs.Facts.{IsSpan, Audited}
 use Rattle.model.proofs.Tests.{is-true, of-true, same-test}
-use Rattle.model.proofs.Bounded.{within, within-true, first-props, first-is, first-cong, First}
+use Rattle.model.proofs.Bounded.{within, within-true, first-props, first-is, first-cong}
 use Rattle.model.proofs.Rules.{tests}
 use Rattle.model.proofs.Spans.{element-word, in-span, fits}
 use Rattle.model.proofs.Effects.{swept-at}

@@ -4,18 +4,18 @@
 use Prim.Native.Nat.{ℕ, zero, suc, _+_, _-_, _/_, _<_, _≤_}
 use mathlib.Core.Bool.{Bool, true, false, not, cond, _&&_, _||_, or-true, true≢false}
 use mathlib.Core.List.{List}
-use mathlib.Core.Logic.{_⊎_, inl, inr, _≢_}
+use mathlib.Core.Logic.{inl, inr, _≢_}
 use mathlib.Core.Path.{_≡_, refl, ap, sym, _∙_, subst}
 use native.Mathlib.Omega.{arith}
 use lib.Dec.{T, eqb, leb, ltb, leb→le}
-use borrow.Author.Tests.{eqb-true, eqb-false, eq-eqb, ne-eqb, ltb-true, ltb-false, lt-ltb, le-ltb, le-leb, leb-true, leb-false, not-true, not-false}
+use borrow.Author.Tests.{eqb-true, eqb-false, eq-eqb, ne-eqb, ltb-true, ltb-false, le-leb, leb-true, leb-false, not-true, not-false}
 use Rattle.model.specs.Bounded.{firstBelow, allBelow, _implies_, _≤?_}
 use Rattle.model.specs.Memory.{Heap, addressOf, stackCount, slotCount, unsweptFlag, state, closed, wordBytes}
 use Rattle.model.specs.Answers.{refusal, _given_, _orElse_, noRoom, badStack, badSlot, badSize}
 use Rattle.model.specs.Bitmaps.{is, allocated}
 use Rattle.model.specs.Classes.{kindOf, pagesFor, maxSize}
 use Rattle.model.specs.Spans.{kindEntry, kindAt, isFree, startsSpan, isUnswept, elements, elementStart}
-use Rattle.model.specs.Checks.{slotRefusal, sizeRefusal}
+use Rattle.model.specs.Checks.{slotRefusal}
 use Rattle.model.specs.Allocate.{freeElement, hasRoom, spanWithRoom, runLength, isRun, isShortest, bestRun, elementFree, pagesFree, roomFor, roomRefusal, newWord, ofKind, anySpan, nextUnswept, sweptUntil, lastOf, roomSweeps, sweptForRoom, allocateRefusal, placeRecord, allocate}
 use Rattle.model.specs.Facts.{IsSpan, Audited}
 use Rattle.model.specs.Lent.{AllSwept}

@@ -1,21 +1,21 @@
 -- What a chain of checks that gives 0 has passed. The ruleset `passes` turns any chain into a product of facts and back; the chains that several
 -- calls share have their product stated here.
 use Prim.Native.Nat.{ℕ, _/_, _<_, _≤_}
-use mathlib.Core.Bool.{Bool, true, false, not, cond, _&&_}
+use mathlib.Core.Bool.{Bool, true, false, not, cond}
 use mathlib.Core.Logic.{_≢_, _↔_, _⊎_, inl, inr}
 use mathlib.Core.Path.{_≡_, refl, sym, _∙_}
 use native.Mathlib.Omega.{arith}
 use lib.Dec.{T, eqb, ltb}
 use borrow.Author.Tests.{eqb-true, eqb-false, ltb-true, ltb-false}
 use Rattle.model.specs.Bounded.{allBelow, someBelow}
-use Rattle.model.specs.Memory.{Heap, goodBuffers, words, state, phase, globalsState, stackCount, slotCount, globalCount, wordBytes, mark, sweep, closed, grayState}
-use Rattle.model.specs.Answers.{_given_, _orElse_, badBuffers, damaged, noRoom}
+use Rattle.model.specs.Memory.{Heap, goodBuffers, words, state, phase, globalsState, stackCount, slotCount, globalCount, wordBytes, mark, closed, grayState}
+use Rattle.model.specs.Answers.{_given_, _orElse_, badBuffers, damaged}
 use Rattle.model.specs.Bitmaps.{is, gray}
 use Rattle.model.specs.Spans.{elementWords, spanOf, pointerCount}
 use Rattle.model.specs.Checks.{buffersRefusal, slotRefusal, slotsRefusal, globalRefusal, pointerRefusal, numberRefusal, recordAt, openRefusal}
 use Rattle.model.specs.Audit.{audit}
 use Rattle.model.specs.Allocate.{roomFor, roomRefusal, allocateRefusal}
-use Rattle.model.specs.Classes.{kindOf, pagesFor, maxSize}
+use Rattle.model.specs.Classes.{maxSize}
 use Rattle.model.specs.Cycle.{firstGray, finishRefusal}
 use Rattle.model.specs.Calls.{entry}
 use Rattle.model.proofs.Tests.{is-true, of-true, and-iff, nor-iff, not-not-iff, implies-iff, eqb-iff, neqb-iff, ltb-iff, nltb-iff, leb-iff, nleb-iff}

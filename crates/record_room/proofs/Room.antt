@@ -1,18 +1,17 @@
 -- The search for room: what each way out of it has found, and how the chain of refusals goes on.
 use Prim.Native.Nat.{ℕ, _<_, _≤_}
-use mathlib.Core.Bool.{Bool, true, false, cond, not, _||_, true≢false}
-use mathlib.Core.List.{List}
+use mathlib.Core.Bool.{Bool, true, false, not, true≢false}
 use mathlib.Core.Logic.{inl, _≢_}
 use mathlib.Core.Path.{_≡_, refl, ap, sym, _∙_}
 use native.Mathlib.Omega.{arith}
-use lib.Dec.{T, eqb}
+use lib.Dec.{eqb}
 use borrow.Author.Tests.{lt-ltb, le-ltb, eq-eqb, ne-eqb}
 use Rattle.model.specs.Memory.{Heap, phase, sweep, firstWord}
 use Rattle.model.specs.Answers.{_given_, _orElse_, noRoom}
-use Rattle.model.specs.Classes.{kindOf, pagesFor}
+use Rattle.model.specs.Classes.{pagesFor}
 use Rattle.model.specs.Checks.{slotRefusal, sizeRefusal}
 use Rattle.model.specs.Spans.{kindEntry, elements}
-use Rattle.model.specs.Allocate.{freeElement, hasRoom, spanWithRoom, bestRun, elementFree, pagesFree, ofKind, anySpan, sweptUntil, roomRefusal, newWord, lastOf, roomSweeps, allocateRefusal, allocateSweeps}
+use Rattle.model.specs.Allocate.{freeElement, hasRoom, spanWithRoom, bestRun, elementFree, pagesFree, ofKind, anySpan, roomRefusal, newWord, lastOf, roomSweeps, allocateRefusal, allocateSweeps}
 use Rattle.model.specs.Facts.{IsSpan, Audited}
 use Rattle.model.specs.Lent.{AllSwept, Told}
 use Rattle.model.proofs.Tests.{is-true}

@@ -1,7 +1,7 @@
 -- A loop that sweeps the unswept spans that pass a test until a goal is met, page by page: where it has come to, how it goes on and how it ends. For
 -- any goal and test; a test may not turn from no to yes where another span is swept.
-use Prim.Native.Nat.{ℕ, suc, _+_, _<_, _≤_}
-use mathlib.Core.Bool.{Bool, true, false, _&&_, cond, true≢false}
+use Prim.Native.Nat.{ℕ, _+_, _<_, _≤_}
+use mathlib.Core.Bool.{Bool, true, false, cond, true≢false}
 use mathlib.Core.List.{List}
 use mathlib.Core.Logic.{inl, inr}
 use mathlib.Core.Path.{_≡_, refl, sym, _∙_, subst}
@@ -10,11 +10,11 @@ use lib.Dec.{T, eqb}
 use lib.ListN.{length}
 use borrow.Author.Tests.{eqb-true, eqb-false}
 use Rattle.model.specs.Memory.{Heap, lent, unsweptFlag}
-use Rattle.model.specs.Spans.{kindEntry, startsSpan, isUnswept}
+use Rattle.model.specs.Spans.{kindEntry}
 use Rattle.model.specs.Cycle.{sweptTable, sweptBits, sweptSpan}
 use Rattle.model.specs.Allocate.{nextUnswept, sweptUntil}
 use Rattle.model.specs.Facts.{IsSpan, Audited}
-use Rattle.model.proofs.Tests.{is-true, of-true}
+use Rattle.model.proofs.Tests.{is-true}
 use Rattle.model.proofs.Bounded.{first-props, first-is}
 use Rattle.keeps.proofs.Swept.{span-kept}
 use Rattle.keeps.proofs.Unswept.{loop-ends, loop-goes}

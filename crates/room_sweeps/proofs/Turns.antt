@@ -1,34 +1,32 @@
 -- One turn of each loop: what it leaves by what the functions that it calls ensure, that the goal is not met where it found nothing, and how the loop
 -- ends.
-use Prim.Native.Nat.{ℕ, _+_, _<_, _≤_}
-use mathlib.Core.Bool.{Bool, true, false, _&&_, cond, and-false, true≢false}
+use Prim.Native.Nat.{ℕ, _<_, _≤_}
+use mathlib.Core.Bool.{Bool, true, false, _&&_, cond, true≢false}
 use mathlib.Core.List.{List}
 use mathlib.Core.Logic.{_≢_}
 use mathlib.Core.Path.{_≡_, refl, ap, sym, _∙_}
 use native.Mathlib.Omega.{arith}
-use lib.Dec.{T, eqb, ltb}
-use borrow.Author.Tests.{ne-eqb, eq-eqb, lt-ltb, le-ltb, ltb-true, ltb-false}
+use borrow.Author.Tests.{ne-eqb, eq-eqb, lt-ltb, le-ltb, ltb-false}
 use Rattle.model.specs.Memory.{Heap, lent, unsweptFlag}
-use Rattle.model.specs.Spans.{kindEntry, kindAt, pageCount, startsSpan, isUnswept, elementStart}
+use Rattle.model.specs.Spans.{kindEntry, kindAt, startsSpan, isUnswept}
 use Rattle.model.specs.Cycle.{sweptTable, sweptBits, sweptSpan, nothingLeft}
-use Rattle.model.specs.Allocate.{freeElement, hasRoom, spanWithRoom, bestRun, isShortest, elementFree, pagesFree, ofKind, anySpan, nextUnswept, sweptUntil}
+use Rattle.model.specs.Allocate.{hasRoom, bestRun, isShortest, elementFree, pagesFree, ofKind, anySpan}
 use Rattle.model.specs.Facts.{Spans, IsSpan, Audited}
-use Rattle.model.proofs.Tests.{is-true, of-true, clash}
+use Rattle.model.proofs.Tests.{is-true, clash}
 use Rattle.model.proofs.Bounded.{first-props}
 use Rattle.model.proofs.Lent.{audited-consistent, audited-mapped}
 use Rattle.model.specs.Lent.{Mapped}
 use Rattle.model.proofs.Spans.{fits}
 use Rattle.keeps.proofs.Swept.{span-kept}
 use Rattle.keeps.proofs.Beside.{as-facts, room-here, room-lowest, kind-beside, runs-stay}
-use Rattle.element_search.specs.Free.{FreeIn, FreeOf}
+use Rattle.element_search.specs.Free.{FreeIn}
 use Rattle.element_search.specs.declared.Free.{Free}
-use Rattle.page_table.specs.Span.{Reads}
 use Rattle.page_entries.specs.Unswept.{UnsweptAt}
 use Rattle.page_entries.specs.declared.Unswept.{Unswept}
 use Rattle.span_sweep.specs.Needs.{SpanRead, SweepsSpan}
 use Rattle.span_sweep.specs.declared.SpanSwept.{SpanSwept}
 use Rattle.span_sweep.proofs.Bounds.{span-read}
-use Rattle.room_sweeps.specs.Needs.{LentAudited, isNext, SweptIf, KindSwept, PagesSwept, KindDone, PagesDone}
+use Rattle.room_sweeps.specs.Needs.{LentAudited, isNext, KindSwept, PagesSwept, KindDone, PagesDone}
 use Rattle.room_sweeps.proofs.Loop.{Steady, Under, turned, ends-met, ends-none}
 
 -- whether the next span is at page s, by what was found there

@@ -1,12 +1,7 @@
 -- `record_room::find` meets its contract. Each way out has its law in proofs/Room.antt.
-use Prim.Native.Nat.{ℕ}
-use mathlib.Core.List.{List}
-use mathlib.Core.Path.{_≡_, refl, _∙_}
-use native.Mathlib.Omega.{arith}
+use mathlib.Core.Path.{refl}
 use denote.Ref.{now}
 use borrow.Author.Needs.{needs}
-use Rattle.model.specs.Memory.{Heap, lent}
-use Rattle.model.specs.Facts.{Audited}
 use Rattle.record_room.proofs.Room.{told, element-kept, found-old, found-new, found-none}
 use Rattle.record_room.proofs.find.Statement.{statement}
 use Rattle.record_room.proofs.find.Tie as tie

@@ -1,7 +1,6 @@
 -- `room_sweeps::sweep_any` meets its contract: no unswept span there, one that stays, or one whose pages are returned.
 use Prim.Native.Nat.{ℕ}
 use mathlib.Core.List.{List}
-use native.Mathlib.Omega.{arith}
 use borrow.Author.Tests.{not-true, not-false}
 use denote.Ref.{now}
 use borrow.Author.Needs.{needs}

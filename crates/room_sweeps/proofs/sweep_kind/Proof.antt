@@ -1,5 +1,5 @@
 -- The invariant: no unswept span of the kind starts below page s, none of the kind has room, and what is left to do is what was to do at the beginning.
-use Prim.Native.Nat.{ℕ, _≤_, _-_}
+use Prim.Native.Nat.{_≤_, _-_}
 use native.Mathlib.Omega.{arith}
 use borrow.Author.Needs.{needs}
 use Rattle.model.specs.Allocate.{elementFree, ofKind}

@@ -1,16 +1,11 @@
 -- `room_sweeps::sweep_of_kind` meets its contract: no unswept span there, one of another kind, or one that is swept.
 use Prim.Native.Nat.{ℕ}
-use mathlib.Core.Bool.{Bool, true, false, _&&_, and-false}
 use mathlib.Core.List.{List}
-use mathlib.Core.Path.{_≡_, refl, sym, _∙_}
-use native.Mathlib.Omega.{arith}
-use borrow.Author.Tests.{not-true, not-false, eq-eqb, ne-eqb}
+use borrow.Author.Tests.{not-true, not-false}
 use denote.Ref.{now}
 use borrow.Author.Needs.{needs}
 use Rattle.model.specs.Memory.{Heap, lent}
-use Rattle.model.specs.Spans.{kindAt}
 use Rattle.model.specs.Allocate.{ofKind}
-use Rattle.room_sweeps.specs.Needs.{isNext}
 use Rattle.room_sweeps.proofs.Turns.{no-next, next-other, next-kind, readable, swept-mapped, no-span, swept-one}
 use Rattle.room_sweeps.proofs.sweep_of_kind.Statement.{statement}
 use Rattle.room_sweeps.proofs.sweep_of_kind.Tie as tie

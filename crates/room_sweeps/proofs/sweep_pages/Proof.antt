@@ -1,5 +1,5 @@
 -- The invariant: no unswept span starts below page s, no run is long enough, and what is left to do is what was to do at the beginning.
-use Prim.Native.Nat.{ℕ, _≤_, _-_}
+use Prim.Native.Nat.{_≤_, _-_}
 use native.Mathlib.Omega.{arith}
 use borrow.Author.Tests.{le-ltb}
 use borrow.Author.Needs.{needs}
