@@ -1,6 +1,7 @@
 -- `room_sweeps::sweep_any` meets its contract: no unswept span there, one that stays, or one whose pages are returned.
 use Prim.Native.Nat.{ℕ}
 use mathlib.Core.List.{List}
+use native.Mathlib.Omega.{arith}
 use borrow.Author.Tests.{not-true, not-false}
 use denote.Ref.{now}
 use borrow.Author.Needs.{needs}
@@ -53,7 +54,7 @@ best-run-requires c κs =
     let w = swept (c .before .before) in
     let e = looked w in
     let d = e .before in
-    (swept-mapped (start d .pre .0) (d .unswept-at .ensures) (not-false _ (e .if1 .left)) (w .sweep .ensures) .table, start d .pre .2)
+    (swept-mapped (start d .pre .0) (d .unswept-at .ensures) (not-false _ (e .if1 .left)) (w .sweep .ensures) .table, omega (arith, start d .pre .2))
 
 returns-3 : tie.Need-returns-3
 returns-3 c a o =

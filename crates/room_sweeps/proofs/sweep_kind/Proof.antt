@@ -30,7 +30,7 @@ loop-holds c = let s = c .before .before in (omega arith, begun _ _ (s .pre .1))
 sweep-of-kind-requires : tie.Need-sweep-of-kind-requires Inv-loop μ-loop
 sweep-of-kind-requires c κs =
     let t = c .before .before in
-    (still (t .before .loop .inv .1) (start (t .before) .pre .0), t .loop-test .taken)
+    (still (t .before .loop .inv .1) (start (t .before) .pre .0), omega (arith, t .loop-test .taken))
 
 returns : tie.Need-returns Inv-loop μ-loop
 returns c =

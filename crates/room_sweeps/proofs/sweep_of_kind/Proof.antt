@@ -1,6 +1,7 @@
 -- `room_sweeps::sweep_of_kind` meets its contract: no unswept span there, one of another kind, or one that is swept.
 use Prim.Native.Nat.{ℕ}
 use mathlib.Core.List.{List}
+use native.Mathlib.Omega.{arith}
 use borrow.Author.Tests.{not-true, not-false}
 use denote.Ref.{now}
 use borrow.Author.Needs.{needs}
@@ -55,7 +56,7 @@ free-in-requires c κs =
     let w = swept c in
     let e = known w in
     let d = looked e in
-    (swept-mapped (start d .pre .0) (d .unswept-at .ensures) (not-false _ (e .before .if1 .left)) (w .sweep .ensures), start d .pre .1)
+    (swept-mapped (start d .pre .0) (d .unswept-at .ensures) (not-false _ (e .before .if1 .left)) (w .sweep .ensures), omega (arith, start d .pre .1))
 
 returns-3 : tie.Need-returns-3
 returns-3 c a o =

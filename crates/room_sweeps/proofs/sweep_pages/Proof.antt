@@ -31,7 +31,7 @@ loop-holds c = let s = c .before .before in (omega arith, begun _ _ (λ a o. le-
 sweep-any-requires : tie.Need-sweep-any-requires Inv-loop μ-loop
 sweep-any-requires c κs =
     let t = c .before .before in
-    (still (t .before .loop .inv .1) (start (t .before) .pre .0), t .loop-test .taken, start (t .before) .pre .2)
+    (still (t .before .loop .inv .1) (start (t .before) .pre .0), omega (arith, t .loop-test .taken), start (t .before) .pre .2)
 
 returns : tie.Need-returns Inv-loop μ-loop
 returns c =
