@@ -36,7 +36,7 @@ extern "C" {
 #define HEAP_BITMAP_WORDS(p) (64 * (size_t)(p))
 #define HEAP_ROOT_WORDS 562
 
-/* Refusals, in the order in which they are tested. */
+/* Refusals, in the order in which they are tested; 8 is no refusal any more. */
 enum {
     HEAP_BAD_BUFFERS = 1, /* P or a length is not as above */
     HEAP_DAMAGED = 12,    /* the audit says no (not asked by heap_setup) */
@@ -46,8 +46,7 @@ enum {
     HEAP_BAD_SIZE = 5,    /* size 0 or above 1,048,576, or more pointer words than size / 8 */
     HEAP_NIL = 6,         /* the slot that should name a record holds nil */
     HEAP_BAD_FIELD = 7,   /* field outside the range that the call names */
-    HEAP_SWEEP_FIRST = 8, /* no room, the phase is sweep, and some span is unswept */
-    HEAP_NO_ROOM = 9,     /* no room otherwise */
+    HEAP_NO_ROOM = 9,     /* no room, and no unswept span is left that could make some */
     HEAP_UNFINISHED = 10  /* finish with a gray stack, gray globals or a gray record */
 };
 
@@ -74,7 +73,9 @@ uint64_t heap_close(HEAP_BUFFERS(const, const, const, HEAP_WRITES),
                     uint64_t s, uint64_t values[3]);
 
 /* A record of `size` bytes whose first `pointers` words hold pointers, all words 0, into slot i of
- * stack s. values[0] is its address. */
+ * stack s. values[0] is its address. In the sweep phase the call sweeps unswept spans where it needs
+ * room; refused 9 it has swept them all, and it is the one refused call that may change words: of
+ * the page table and the bitmaps. */
 uint64_t heap_alloc(HEAP_BUFFERS(HEAP_WRITES, HEAP_WRITES, HEAP_WRITES, HEAP_WRITES),
                     uint64_t s, uint64_t i, uint64_t size, uint64_t pointers, uint64_t values[3]);
 

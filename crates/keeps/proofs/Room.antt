@@ -150,7 +150,7 @@ module _ (P : ℕ) (t : List ℕ) (n : ℕ) where
   shortest-from zero r l e b = shorter r l e (λ k x y z. absurd (omega arith))
   shortest-from (suc m) r l e b = shorter r l e (λ k x y z. shortest-from m k x y (omega arith))
 
-  best-there : (g : ℕ) → 0 < n → g + n ≤ P → ((k : ℕ) → k < n → isFree t (g + k) ≡ true) → bestRun P t n < P
+  pub best-there : (g : ℕ) → 0 < n → g + n ≤ P → ((k : ℕ) → k < n → isFree t (g + k) ≡ true) → bestRun P t n < P
   unfolding bestRun
   best-there g m l f = let r = run-from g m l f in go (shortest-from (runLength P t (r .0)) (r .0) (r .1) (r .2) (omega arith)) (ltb (bestRun P t n) P) refl
     where

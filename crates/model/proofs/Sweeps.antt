@@ -24,9 +24,7 @@ pub next-unswept : (test : Heap → ℕ → Bool) (h : Heap) → nextUnswept tes
     IsSpan (h .table) (nextUnswept test h) × (unsweptFlag ≤ kindEntry (h .table) (nextUnswept test h))
 unfolding nextUnswept
 next-unswept test h l =
-    let s = nextUnswept test h in
-    let x = simp tests at (is-true (startsSpan (h .table) s && isUnswept (h .table) s && test h s)
-    (first-props (h .pages) (λ s. startsSpan (h .table) s && isUnswept (h .table) s && test h s) .holds l)) in
+    let x = simp tests at (is-true _ (first-props (h .pages) _ .holds l)) in
     (x .0 .0, x .0 .1)
 
 pub until-sweeps : (n : ℕ) (goal : Heap → Bool) (test : Heap → ℕ → Bool) (h : Heap) → Sweeps h (sweepAtMost n goal test h)

@@ -1,0 +1,80 @@
+-- Pages that come free where no run was long enough: a run that is long enough now is the one around them, so that no other need be looked at.
+use Prim.Native.Nat.{ℕ, _+_, _-_, _<_, _≤_}
+use mathlib.Core.Bool.{Bool, true, false, not, _||_, true≢false}
+use mathlib.Core.List.{List}
+use mathlib.Core.Path.{_≡_, refl, sym, _∙_}
+use native.Mathlib.Omega.{arith}
+use lib.Dec.{T, eqb, leb, ltb}
+use borrow.Author.Tests.{eq-eqb, ne-eqb, ltb-true, ltb-false, leb-true, leb-false}
+use Rattle.model.specs.Bounded.{firstBelow}
+use Rattle.model.specs.Memory.{Heap}
+use Rattle.model.specs.Spans.{owner, pageCount, isFree}
+use Rattle.model.specs.Cycle.{sweptTable, nothingLeft}
+use Rattle.model.specs.Allocate.{runLength, isShortest, bestRun}
+use Rattle.model.specs.Facts.{IsSpan, Audited}
+use Rattle.model.proofs.Bounded.{within, within-yes, within-true, first-props}
+use Rattle.keeps.proofs.SweptTable.{outside, gone}
+use Rattle.keeps.proofs.Room.{best-there}
+use Rattle.page_runs.specs.Around.{runStart}
+use Rattle.page_runs.proofs.Allocate.{run-free, best-fits, best-long, best-starts}
+use Rattle.page_runs.proofs.Around.{start-is}
+
+module _ {h : Heap} (F : Audited h) (s : ℕ) (span : IsSpan (h .table) s) (left : nothingLeft h s ≡ true) (n : ℕ) (some : 0 < n)
+    (none : h .pages ≤ bestRun (h .pages) (h .table) n) where
+  abbrev P : ℕ
+  P = h .pages
+
+  abbrev t : List ℕ
+  t = h .table
+
+  abbrev u : List ℕ
+  u = sweptTable h s
+
+  abbrev k : ℕ
+  k = pageCount (h .table) s
+
+  -- n free pages in a row have one of the returned pages among them
+  touches : (r : ℕ) → r + n ≤ P → ((j : ℕ) → j < n → isFree u (r + j) ≡ true) → (j : ℕ) × (j < n) × (within s k (r + j) ≡ true)
+  touches r l f = go (ltb (firstBelow n returned) n) refl
+    where
+      returned : ℕ → Bool
+      returned j = within s k (r + j)
+
+      go : (b : Bool) → ltb (firstBelow n returned) n ≡ b → (j : ℕ) × (j < n) × (within s k (r + j) ≡ true)
+      go true e = let m = ltb-true (firstBelow n returned) n e in (firstBelow n returned, m, first-props n returned .holds m)
+      go false e =
+          let was = λ (j : ℕ) (m : j < n). rw (outside F s span (r + j) (first-props n returned .before j (omega (arith, ltb-false (firstBelow n returned) n e))) .0) at (f j m) in
+          absurd (omega (arith, best-there P t n r some l was))
+
+  pub around : bestRun P u n < P → n ≤ runLength P u (runStart u s)
+  around l = go (leb r s) refl
+    where
+      r : ℕ
+      r = bestRun P u n
+
+      long : n ≤ runLength P u (bestRun P u n)
+      long = best-long P u n l
+
+      free : (x : ℕ) → bestRun P u n ≤ x → x < bestRun P u n + runLength P u (bestRun P u n) → isFree u x ≡ true
+      free = run-free P u (bestRun P u n)
+
+      x : (j : ℕ) × (j < n) × (within s k (bestRun P u n + j) ≡ true)
+      x = touches (bestRun P u n) (best-fits P u n l) (λ j m. free (r + j) (omega arith) (omega (arith, long)))
+
+      go : (b : Bool) → leb (bestRun P u n) s ≡ b → n ≤ runLength P u (runStart u s)
+      go true e =
+          let w = within-true s k (r + x .0) (x .2) in
+          rw (start-is u r s (leb-true r s e) (λ y a b. free y a (omega (arith, long, w, x .1))) (best-starts P u n l)) long
+      go false e =
+          let m = leb-false r s e in
+          let w = within-true s k (r + x .0) (x .2) in
+          let g = gone F s span left (r - 1) (within-yes s k (r - 1) (omega arith) (omega (arith, w))) .0 in
+          absurd (true≢false (sym (best-starts P u n l) ∙ rw (ne-eqb r 0 (omega arith), g)))
+
+  -- where that one is too short there is none
+  pub none-around : leb n (runLength P u (runStart u s)) ≡ false → bestRun P u n ≡ P
+  none-around e = go (ltb (bestRun P u n) P) refl
+    where
+      go : (b : Bool) → ltb (bestRun P u n) P ≡ b → bestRun P u n ≡ P
+      go true q = absurd (omega (arith, around (ltb-true (bestRun P u n) P q), leb-false n (runLength P u (runStart u s)) e))
+      go false q = omega (arith, ltb-false (bestRun P u n) P q, unfold bestRun in first-props P (isShortest P u n) .within)
