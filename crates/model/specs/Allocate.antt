@@ -57,9 +57,13 @@ roomFor h kind n = elementFree kind h || pagesFree n h
 unfoldable pub roomRefusal : Heap → ℕ → ℕ → ℕ
 roomRefusal h kind n = noRoom given not (roomFor h kind n)
 
--- SWEEPING FOR ROOM. The unswept span with the lowest start page that passes a test, or P
+-- SWEEPING FOR ROOM. An unswept span that passes a test starts at page s
+abbrev pub isNext : (Heap → ℕ → Bool) → Heap → ℕ → Bool
+isNext test h s = startsSpan (h .table) s && isUnswept (h .table) s && test h s
+
+-- the one with the lowest start page, or P
 unfoldable pub nextUnswept : (Heap → ℕ → Bool) → Heap → ℕ
-nextUnswept test h = firstBelow (h .pages) (λ s. startsSpan (h .table) s && isUnswept (h .table) s && test h s)
+nextUnswept test h = firstBelow (h .pages) (isNext test h)
 
 -- unswept spans that pass a test are swept, "from the lowest start page until" a goal is met or none is left, and at most n of them: the heap after
 -- each sweep
@@ -124,7 +128,8 @@ newBits h w p =
     let b = putBits (words h) pointer w p (λ v. true) (putBit (words h) allocated w true (h .bits)) in
     if phase h == mark then putBit (words h) marked w true b else b
 
--- "All words of the element become 0 ... The answer is the address.", on a heap that was swept for room; where there is none it is refused, and left
+-- "All words of the element become 0 ... The answer is the address.", on a heap that was swept for room; where it has no room
+-- the call is refused, and the heap is left so
 unfoldable pub placeRecord : Heap → ℕ → ℕ → ℕ → ℕ → Outcome
 placeRecord h s i size p =
     let kind = kindOf size p in
@@ -138,12 +143,13 @@ placeRecord h s i size p =
 unfoldable pub allocateRefusal : Heap → ℕ → ℕ → ℕ → ℕ → ℕ
 allocateRefusal h s i size p = slotRefusal h s i orElse sizeRefusal size p
 
--- the heaps after the sweeps inside the call, and the last of them
-unfoldable pub allocateSweeps : Heap → ℕ → ℕ → ℕ → ℕ → List Heap
-allocateSweeps h s i size p = if allocateRefusal h s i size p == 0 then roomSweeps (kindOf size p) (pagesFor size) h else []
-
+-- the heap after the sweeps that make room for such a record
 abbrev pub sweptForRoom : Heap → ℕ → ℕ → Heap
 sweptForRoom h size p = lastOf h (roomSweeps (kindOf size p) (pagesFor size) h)
+
+-- the heaps after the sweeps inside the call: none where it is refused before
+unfoldable pub allocateSweeps : Heap → ℕ → ℕ → ℕ → ℕ → List Heap
+allocateSweeps h s i size p = if allocateRefusal h s i size p == 0 then roomSweeps (kindOf size p) (pagesFor size) h else []
 
 -- the call: refused before any sweep, or the record put in its place on the heap that the sweeps leave. [2] "9 is given exactly when nothing fits
 -- after all that and leaves every span swept, the one refusal that changes words"

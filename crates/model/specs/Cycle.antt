@@ -96,7 +96,7 @@ sweptTable h s =
     if nothingLeft h s then putPages s n (λ g. freePage) (h .table)
     else putPage s (spanPage s n (kindAt (h .table) s) s) (h .table)
 
--- the heap with the span at page s swept
+-- the heap with the span at page s swept. [2] "The phase stays sweep until a sweep step finds nothing."
 abbrev pub sweptSpan : ℕ → Heap → Heap
 sweptSpan s h = lent (h .pages) (h .arena) (sweptTable h s) (sweptBits h s) (h .roots)
 

@@ -6,7 +6,7 @@ use mathlib.Core.List.{List, [], _∷_}
 use mathlib.Core.Logic.{_≢_}
 use mathlib.Core.Path.{_≡_}
 use lib.Dec.{T}
-use Rattle.model.specs.Memory.{Heap, unsweptFlag}
+use Rattle.model.specs.Memory.{Heap, phase, unsweptFlag}
 use Rattle.model.specs.Answers.{refusal, noRoom}
 use Rattle.model.specs.Bitmaps.{is, allocated}
 use Rattle.model.specs.Classes.{kindOf, pagesFor}
@@ -31,14 +31,17 @@ NoElementFree h kind =
 abbrev pub NoPagesFree : Heap → ℕ → Type 0
 NoPagesFree h n = (g : ℕ) → g + n ≤ h .pages → (k : ℕ) × (k < n) × T (not (isFree (h .table) (g + k)))
 
--- an allocation on h, where g is h swept for it
+-- an allocation on h
 pub record NoRoom (h : Heap) (s i size p : ℕ) : Type 0 where
-  -- "9 is given exactly when nothing fits after all that"
-  pub given : refusal (allocate h s i size p .answer) ≡ noRoom → let g = sweptForRoom h size p in
+  -- "9 is given exactly when nothing fits after all that": nothing fits in what it leaves; and where nothing fits after the sweeps it is given
+  pub given : refusal (allocate h s i size p .answer) ≡ noRoom → let g = allocate h s i size p .heap in
       (allocateRefusal h s i size p ≡ 0) × NoElementFree g (kindOf size p) × NoPagesFree g (pagesFor size)
   pub due : let g = sweptForRoom h size p in
       allocateRefusal h s i size p ≡ 0 → NoElementFree g (kindOf size p) → NoPagesFree g (pagesFor size) → refusal (allocate h s i size p .answer) ≡ noRoom
-  -- "and leaves every span swept"
+  -- "and leaves every span swept": it leaves what the sweeps left
   pub leaves : refusal (allocate h s i size p .answer) ≡ noRoom → AllSwept (allocate h s i size p .heap .table)
+  pub swept : refusal (allocate h s i size p .answer) ≡ noRoom → allocate h s i size p .heap ≡ sweptForRoom h size p
   -- "the one refusal that changes words"
   pub others : refusal (allocate h s i size p .answer) ≢ 0 → refusal (allocate h s i size p .answer) ≢ noRoom → allocate h s i size p .heap ≡ h
+  -- "The phase stays sweep until a sweep step finds nothing."
+  pub stays : phase (allocate h s i size p .heap) ≡ phase h
