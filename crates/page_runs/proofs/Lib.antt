@@ -1,2 +1,3 @@
 pub mod Allocate
+pub mod Around
 mod Runs

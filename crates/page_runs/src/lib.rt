@@ -1,10 +1,15 @@
 // Runs of free pages of the page table: how long one is, and the best run for a number of pages, as the
-// model's specs/Allocate.antt defines them. Crate page_table reads the entries of spans; this is a crate
+// model's specs/Allocate.antt defines them; and whether a number of pages fits in the run around a page
+// (fits_around), by specs/Around.antt. Crate page_table reads the entries of spans; this is a crate
 // apart from it for the gate's time: each wrong program proves its whole crate again.
 ghost use mathlib.Core.Path.{_≡_};
-ghost use Prim.Native.Nat.{_<_, _≤_};
+ghost use Prim.Native.Nat.{_*_, _<_, _≤_};
+ghost use lib.ListN.{length};
+ghost use Rattle.model.specs.Bounded.{_≤?_};
+ghost use Rattle.model.specs.Memory.{entryNumbers};
 ghost use Rattle.model.specs.Allocate.{runLength, bestRun};
 ghost use Rattle.model.specs.Lent.{PageTable};
+ghost use Rattle.page_runs.specs.Around.{runStart};
 use units::ENTRY_NUMBERS;
 use units::Page;
 
@@ -46,4 +51,31 @@ pub fn best_run(p: usize, table: &[u32], n: usize) -> Page
         }
     }
     Page(best)
+}
+
+// The first page of the run of free pages that ends at page s or goes on behind it. Page s itself is
+// not looked at; the pages below it have entries.
+fn run_start(table: &[u32], s: Page) -> Page
+    requires { ⌜ entryNumbers * s .0 ≤ length (now table) ⌝ }
+    ensures { λ r. ⌜ r .0 ≡ runStart (now (table .entry)) (s .0) ⌝ }
+{
+    let mut first = s.0;
+    while 0 < first {
+        let below = first - 1;
+        if table[ENTRY_NUMBERS * below] != 0 {
+            return Page(first);
+        }
+        first = below;
+    }
+    Page(first)
+}
+
+// Whether the run of free pages around page s has at least n pages.
+pub fn fits_around(p: usize, table: &[u32], s: Page, n: usize) -> bool
+    requires { ⌜ PageTable p (now table) × (s .0 < p) ⌝ }
+    ensures { λ r. ⌜ r ≡ (n ≤? runLength p (now (table .entry)) (runStart (now (table .entry)) (s .0))) ⌝ }
+{
+    let start = run_start(table, s);
+    let pages = run_length(p, table, start);
+    n <= pages
 }
