@@ -121,7 +121,7 @@ bad-run P h e c = go (asksAudit c)
     go false = record { answer = rw e; heap = rw e }
 
 -- only an allocation sweeps inside
-data IsAllocation : Call → Type 0 where
+pub data IsAllocation : Call → Type 0 where
   allocation : (s i size p : ℕ) → IsAllocation (Allocate s i size p)
 
 sweeps-only : (h : Heap) (c : Call) → (sweepsIn h c ≡ []) ⊎ IsAllocation c

@@ -44,7 +44,7 @@ use Rattle.history.proofs.View.{view, wordsAt}
 use Rattle.history.proofs.Steps.{Said}
 use Rattle.history.proofs.Stages.{Along, StepOn, step-as, join, at, steps, since, to-end, fed-last, parts}
 use Rattle.history.proofs.Runs.{Made, made, inside, calm}
-use Rattle.history.proofs.Refused.{refused-spares}
+use Rattle.history.proofs.Refused.{refused-spares, refused-quiet, last-buffers}
 use Rattle.history.proofs.Lists.{Course, course, stages-last}
 use Rattle.history.proofs.Progress.{begin-event, finishing, ending}
 
@@ -222,7 +222,9 @@ module _ (P : ℕ) (h : Heap) (F : Audited (onPages P h)) (Fr : Fresh (view (onP
   pub beyond : (rs : List Request) → Beyond P h rs
   beyond rs = let R = run-of rs in record {
     sound = λ p. next (p .before) (p .here) .sound;
-    spared = λ p. refused-spares P (onPages (p .here .pages) (after h (p .before))) (p .here .call);
+    spared = λ p d. refused-spares P (onPages (p .here .pages) (after h (p .before))) (p .here .call) d
+        ∙ last-buffers P (p .here .pages) (after h (p .before)) (sweepsOf (after h (p .before)) (p .here));
+    quiet = λ p. refused-quiet P (onPages (p .here .pages) (after h (p .before))) (p .here .call);
     room = no-room (R .audited);
     inside = λ p. inside P (after h (p .before)) (run-of (p .before) .audited) (p .here);
     outside = λ p d. let F = run-of (p .before) .audited in calm F (inside P (after h (p .before)) F (p .here)) d;

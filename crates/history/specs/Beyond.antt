@@ -17,6 +17,7 @@ use Rattle.model.specs.Bounded.{countBelow}
 use Rattle.model.specs.Memory.{Heap, words, phase, wordOf, stackCount, off, mark, sweep}
 use Rattle.model.specs.Bitmaps.{is, allocated, marked}
 use Rattle.model.specs.Calls.{Request, step, sweepsOf, after}
+use Rattle.model.specs.Allocate.{lastOf}
 use Rattle.model.specs.Room.{Sweeps, NoRoom}
 use Rattle.model.specs.declared.Call.the-variants.{Start, ScanGlobals, MarkStep, Finish, SweepStep, ScanStack}
 use Rattle.model.specs.Answers.{refusal, accepted, damaged, noRoom}
@@ -90,9 +91,11 @@ sweepOf P = record { pages = P; call = SweepStep }
 pub record Beyond (P : ℕ) (h : Heap) (rs : List Request) : Type 0 where
   -- no call of the list is refused 12: every call keeps the audit
   pub sound : (p : Place rs) → refusal (answerAt h p) ≢ damaged
-  -- demand 1, of every call: "a refused call leaves every lent word as it was"; [2] but for 9, "the one refusal that changes words"
-  pub spared : (p : Place rs) → refusal (answerAt h p) ≢ 0 → refusal (answerAt h p) ≢ noRoom →
-      onPages P (step (after h (p .before)) (p .here) .heap) ≡ onPages P (after h (p .before))
+  -- "A refusal ... changes no word in any buffer": a refused call leaves every word as the sweeps inside it left it, and only a 9 has swept; [2] "the one
+  -- refusal that changes words"
+  pub spared : (p : Place rs) → refusal (answerAt h p) ≢ 0 →
+      onPages P (step (after h (p .before)) (p .here) .heap) ≡ onPages P (lastOf (after h (p .before)) (sweepsOf (after h (p .before)) (p .here)))
+  pub quiet : (p : Place rs) → refusal (answerAt h p) ≢ 0 → refusal (answerAt h p) ≢ noRoom → sweepsOf (after h (p .before)) (p .here) ≡ []
   -- [2] "9 is given exactly when nothing fits after all that and leaves every span swept": of any allocation after the list
   pub room : (s i size q : ℕ) → NoRoom (onPages P (after h rs)) s i size q
   -- [2] the sweeps inside a call: each sweeps one unswept span of the heap before it, and in phases off and mark there are none

@@ -7,16 +7,17 @@ use mathlib.Core.List.{List}
 use mathlib.Core.Logic.{inl, inr, _≢_}
 use mathlib.Core.Path.{_≡_, refl, ap, sym, _∙_, subst}
 use native.Mathlib.Omega.{arith}
+use lib.ListN.{getD, set}
 use lib.Dec.{T, eqb, leb, ltb, leb→le}
 use borrow.Author.Tests.{eqb-true, eqb-false, eq-eqb, ne-eqb, ltb-true, ltb-false, le-leb, leb-true, leb-false, not-true, not-false}
 use Rattle.model.specs.Bounded.{firstBelow, allBelow, _implies_, _≤?_}
-use Rattle.model.specs.Memory.{Heap, addressOf, stackCount, slotCount, unsweptFlag, state, closed, wordBytes}
+use Rattle.model.specs.Memory.{Heap, phase, phaseAt, slotAt, addressOf, stackCount, slotCount, unsweptFlag, state, closed, wordBytes}
 use Rattle.model.specs.Answers.{refusal, _given_, _orElse_, noRoom, badStack, badSlot, badSize}
 use Rattle.model.specs.Bitmaps.{is, allocated}
 use Rattle.model.specs.Classes.{kindOf, pagesFor, maxSize}
 use Rattle.model.specs.Spans.{kindEntry, kindAt, isFree, startsSpan, isUnswept, elements, elementStart}
 use Rattle.model.specs.Checks.{slotRefusal}
-use Rattle.model.specs.Allocate.{freeElement, hasRoom, spanWithRoom, runLength, isRun, isShortest, bestRun, elementFree, pagesFree, roomFor, roomRefusal, newWord, ofKind, anySpan, nextUnswept, sweptUntil, lastOf, roomSweeps, sweptForRoom, allocateRefusal, placeRecord, allocate}
+use Rattle.model.specs.Allocate.{freeElement, hasRoom, spanWithRoom, runLength, isRun, isShortest, bestRun, elementFree, pagesFree, roomFor, roomRefusal, newWord, ofKind, anySpan, isNext, nextUnswept, sweptUntil, lastOf, roomSweeps, sweptForRoom, allocateRefusal, placeRecord, allocate}
 use Rattle.model.specs.Facts.{IsSpan, Audited}
 use Rattle.model.specs.Lent.{AllSwept}
 use Rattle.model.specs.Room.{Sweeps, none, more, NoElementFree, NoPagesFree, NoRoom}
@@ -26,7 +27,8 @@ use Rattle.model.proofs.Bounded.{first-props, some-fails}
 use Rattle.model.proofs.Rules.{tests}
 use Rattle.model.proofs.Spans.{fits}
 use Rattle.model.proofs.Classes.{takes}
-use Rattle.model.proofs.Sweeps.{until-sweeps, room-sweeps, before-sweeps}
+use Rattle.model.proofs.Sweeps.{until-sweeps, room-sweeps, before-sweeps, last-roots}
+use Rattle.keeps.proofs.Roots.{root-other}
 use Rattle.model.proofs.Checks.{allocate-passed}
 use Rattle.keeps.proofs.SweptTable.{unswept-less}
 use Rattle.keeps.proofs.Swept.{span-kept, sweeps-kept}
@@ -47,7 +49,7 @@ passed-over : {h : Heap} → Audited h → (test : Heap → ℕ → Bool) → h 
 unfolding nextUnswept
 passed-over {h} F test l x i k d =
     true≢false (sym (of-true _ (as-test (h .table) x (test h x) i k d))
-    ∙ first-props (h .pages) (λ s. startsSpan (h .table) s && isUnswept (h .table) s && test h s) .before x (omega (arith, F .spans .inside x i, fits (F .spans) x i)))
+    ∙ first-props (h .pages) (isNext test h) .before x (omega (arith, F .spans .inside x i, fits (F .spans) x i)))
 
 pub kind-swept : {h : Heap} → Audited h → (kind : ℕ) → h .pages ≤ nextUnswept (ofKind kind) h → KindSwept h kind
 kind-swept {h} F kind l x i k e = passed-over F (ofKind kind) l x i k (is-true _ (eq-eqb (kindAt (h .table) x) kind e))
@@ -202,7 +204,7 @@ before-not h s i size p =
 -- what an allocation comes to after its sweeps: refused, or not
 after-sweeps : (h : Heap) (s i size p : ℕ) → allocateRefusal h s i size p ≡ 0 → let g = sweptForRoom h size p in
     (refusal (allocate h s i size p .answer) ≡ roomRefusal g (kindOf size p) (pagesFor size)) ×
-    (roomRefusal g (kindOf size p) (pagesFor size) ≢ 0 → allocate h s i size p .heap .table ≡ g .table)
+    (roomRefusal g (kindOf size p) (pagesFor size) ≢ 0 → allocate h s i size p .heap ≡ g)
 unfolding allocate placeRecord
 after-sweeps h s i size p e = rw e (go (eqb (roomRefusal g kind n) 0) refl, λ d. rw (ne-eqb (roomRefusal g kind n) 0 d))
   where
@@ -227,13 +229,34 @@ room-given h kind n = go (roomFor h kind n)
     go true = refl
     go false = refl
 
+-- what the sweeps leave passes the audit
+room-kept : {h : Heap} → Audited h → (kind n : ℕ) → Audited (lastOf h (roomSweeps kind n h))
+room-kept {h} F kind n = sweeps-kept (room-sweeps kind n h) F
+
+-- neither they nor the record's place change the phase
+phase-stays : {h : Heap} → Audited h → (s i size p : ℕ) → allocateRefusal h s i size p ≡ 0 → phase (allocate h s i size p .heap) ≡ phase h
+unfolding allocate placeRecord
+phase-stays {h} F s i size p e = rw e (go (eqb (roomRefusal g (kindOf size p) (pagesFor size)) 0))
+  where
+    g : Heap
+    g = sweptForRoom h size p
+
+    S : Sweeps h (roomSweeps (kindOf size p) (pagesFor size) h)
+    S = room-sweeps (kindOf size p) (pagesFor size) h
+
+    same : getD (sweptForRoom h size p .roots) phaseAt 0 ≡ phase h
+    same = rw (last-roots S)
+
+    go : (b : Bool) → getD (cond b (set (g .roots) (slotAt s i) (addressOf (newWord g (kindOf size p) (pagesFor size)))) (g .roots)) phaseAt 0 ≡ phase h
+    go true =
+        let A = allocate-passed h s i size p e in
+        root-other (room-kept F (kindOf size p) (pagesFor size)) (slotAt s i) _ (omega (arith, A .stack .below, A .slot)) phaseAt (omega (arith, A .stack .below, A .slot)) ∙ same
+    go false = same
+
 -- where nothing fits, neither has room, and every span is swept
 module _ {h : Heap} (F : Audited h) (kind n : ℕ) (e : roomFor (lastOf h (roomSweeps kind n h)) kind n ≡ false) where
   abbrev g : Heap
   g = lastOf h (roomSweeps kind n h)
-
-  G : Audited (lastOf h (roomSweeps kind n h))
-  G = sweeps-kept (room-sweeps kind n h) F
 
   pub neither : (elementFree kind (lastOf h (roomSweeps kind n h)) ≡ false) × (pagesFree n (lastOf h (roomSweeps kind n h)) ≡ false)
   neither = go (elementFree kind g) (pagesFree n g) e
@@ -264,7 +287,7 @@ module _ {h : Heap} (F : Audited h) (kind n : ℕ) (e : roomFor (lastOf h (roomS
           over (inr x) = x
 
       go : (b : Bool) → leb unsweptFlag (kindEntry (g .table) s) ≡ b → kindEntry (g .table) s < unsweptFlag
-      go true q = absurd (passed-over G anySpan ended s i (leb-true unsweptFlag (kindEntry (g .table) s) q) tt)
+      go true q = absurd (passed-over (room-kept F kind n) anySpan ended s i (leb-true unsweptFlag (kindEntry (g .table) s) q) tt)
       go false q = leb-false unsweptFlag (kindEntry (g .table) s) q
 
 -- THE LAW
@@ -288,7 +311,9 @@ no-room {h} F s i size p = go (eqb (allocateRefusal h s i size p) 0) refl
           given = λ x. absurd (before-not h s i size p (sym (b .0) ∙ x));
           due = λ e _ _. absurd (d e);
           leaves = λ x. absurd (before-not h s i size p (sym (b .0) ∙ x));
+          swept = λ x. absurd (before-not h s i size p (sym (b .0) ∙ x));
           others = λ _ _. b .1;
+          stays = ap phase (b .1);
         }
     go true q = after (roomFor g kind n) refl
       where
@@ -302,7 +327,9 @@ no-room {h} F s i size p = go (eqb (allocateRefusal h s i size p) 0) refl
               given = λ x. absurd (omega arith);
               due = λ _ f k. absurd (true≢false (sym m ∙ rw (element-due g kind f, pages-due g n k)));
               leaves = λ x. absurd (omega arith);
+              swept = λ x. absurd (omega arith);
               others = λ d _. absurd (d z);
+              stays = phase-stays F s i size p e;
             }
         after false m =
             let r : roomRefusal g kind n ≡ noRoom = room-given g kind n ∙ ap (λ b. cond b 0 noRoom) m in
@@ -310,9 +337,12 @@ no-room {h} F s i size p = go (eqb (allocateRefusal h s i size p) 0) refl
             let A = allocate-passed h s i size p e in
             let T = takes size p (A .some) (A .limit) (A .pointers) in
             let N = neither F kind n m in
+            let q : allocate h s i size p .heap ≡ g = x .1 (omega arith) in
             record {
-              given = λ _. (e, element-words g (G F kind n m) kind (N .0), pages-words g n (T .fits .pages) (N .1));
+              given = λ _. rw q (e, element-words g (room-kept F kind n) kind (N .0), pages-words g n (T .fits .pages) (N .1));
               due = λ _ _ _. x .0 ∙ r;
-              leaves = λ _. rw (x .1 (omega arith)) (all-swept F kind n m);
+              leaves = λ _. rw q (all-swept F kind n m);
+              swept = λ _. q;
               others = λ _ d. absurd (d (x .0 ∙ r));
+              stays = phase-stays F s i size p e;
             }
