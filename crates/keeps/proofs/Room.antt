@@ -2,7 +2,7 @@
 -- sweeps no swept span of the kind has a free element and no run of pages is long enough; every span is swept then; and no other refusal changes a
 -- word.
 use Prim.Native.Nat.{ℕ, zero, suc, _+_, _-_, _/_, _<_, _≤_}
-use mathlib.Core.Bool.{Bool, true, false, not, cond, _&&_, _||_, or-true, true≢false}
+use mathlib.Core.Bool.{Bool, true, false, not, cond, _||_, or-true, true≢false}
 use mathlib.Core.List.{List}
 use mathlib.Core.Logic.{inl, inr, _≢_}
 use mathlib.Core.Path.{_≡_, refl, ap, sym, _∙_, subst}
@@ -15,7 +15,7 @@ use Rattle.model.specs.Memory.{Heap, phase, phaseAt, slotAt, addressOf, stackCo
 use Rattle.model.specs.Answers.{refusal, _given_, _orElse_, noRoom, badStack, badSlot, badSize}
 use Rattle.model.specs.Bitmaps.{is, allocated}
 use Rattle.model.specs.Classes.{kindOf, pagesFor, maxSize}
-use Rattle.model.specs.Spans.{kindEntry, kindAt, isFree, startsSpan, isUnswept, elements, elementStart}
+use Rattle.model.specs.Spans.{kindEntry, kindAt, isFree, elements, elementStart}
 use Rattle.model.specs.Checks.{slotRefusal}
 use Rattle.model.specs.Allocate.{freeElement, hasRoom, spanWithRoom, runLength, isRun, isShortest, bestRun, elementFree, pagesFree, roomFor, roomRefusal, newWord, ofKind, anySpan, isNext, nextUnswept, sweptUntil, lastOf, roomSweeps, sweptForRoom, allocateRefusal, placeRecord, allocate}
 use Rattle.model.specs.Facts.{IsSpan, Audited}

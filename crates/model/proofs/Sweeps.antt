@@ -1,6 +1,6 @@
 -- The sweeps that make room for an allocation: each sweeps one unswept span, and P, the arena and the roots stay as they were.
 use Prim.Native.Nat.{ℕ, zero, suc, _<_, _≤_}
-use mathlib.Core.Bool.{Bool, true, false, cond, _&&_, _||_}
+use mathlib.Core.Bool.{Bool, true, false, cond, _||_}
 use mathlib.Core.List.{List, [], _∷_, _++_}
 use mathlib.Core.Logic.{_≢_}
 use mathlib.Core.Path.{_≡_, refl}
@@ -9,7 +9,7 @@ use borrow.Author.Tests.{ne-eqb, leb-false}
 use Rattle.model.specs.Memory.{Heap, lent, unsweptFlag}
 use Rattle.model.specs.Answers.{refusal}
 use Rattle.model.specs.Classes.{kindOf, pagesFor}
-use Rattle.model.specs.Spans.{kindEntry, startsSpan, isUnswept}
+use Rattle.model.specs.Spans.{kindEntry}
 use Rattle.model.specs.Cycle.{sweptSpan}
 use Rattle.model.specs.Allocate.{elementFree, pagesFree, anySpan, nextUnswept, sweepAtMost, sweepUntil, lastOf, kindSweeps, pageSweeps, roomSweeps, allocateRefusal, allocateSweeps, placeRecord, allocate}
 use Rattle.model.specs.Facts.{IsSpan}

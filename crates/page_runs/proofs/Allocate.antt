@@ -94,8 +94,16 @@ module _ (p : ℕ) (t : List ℕ) (n : ℕ) (l : bestRun p t n < p) where
   unfolding bestRun isShortest
   best-run = of-true _ (and-iff (isRun p t n (bestRun p t n)) _ .0 (is-true _ (first-props p (isShortest p t n) .holds l)) .0)
 
-  best-long : n ≤ runLength p t (bestRun p t n)
+  pub best-long : n ≤ runLength p t (bestRun p t n)
   best-long = run-long p t n (bestRun p t n) best-run
+
+  -- no free page stands before it
+  pub best-starts : (eqb (bestRun p t n) 0 || not (isFree t (bestRun p t n - 1))) ≡ true
+  unfolding isRun
+  best-starts =
+      let r = bestRun p t n in
+      of-true _ (and-iff (isFree t r) (eqb r 0 || not (isFree t (r - 1))) .0
+      (and-iff (isFree t r && (eqb r 0 || not (isFree t (r - 1)))) (leb n (runLength p t r)) .0 (is-true _ best-run) .0) .1)
 
   pub best-fits : bestRun p t n + n ≤ p
   best-fits = omega (arith, best-long, run-within p t (bestRun p t n))

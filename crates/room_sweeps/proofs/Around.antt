@@ -1,14 +1,14 @@
 -- Pages that come free where no run was long enough: a run that is long enough now is the one around them, so that no other need be looked at.
 use Prim.Native.Nat.{ℕ, _+_, _-_, _<_, _≤_}
-use mathlib.Core.Bool.{Bool, true, false, not, _||_, true≢false}
+use mathlib.Core.Bool.{Bool, true, false, true≢false}
 use mathlib.Core.List.{List}
 use mathlib.Core.Path.{_≡_, refl, sym, _∙_}
 use native.Mathlib.Omega.{arith}
-use lib.Dec.{T, eqb, leb, ltb}
-use borrow.Author.Tests.{eq-eqb, ne-eqb, ltb-true, ltb-false, leb-true, leb-false}
+use lib.Dec.{leb, ltb}
+use borrow.Author.Tests.{ne-eqb, ltb-true, ltb-false, leb-true, leb-false}
 use Rattle.model.specs.Bounded.{firstBelow}
 use Rattle.model.specs.Memory.{Heap}
-use Rattle.model.specs.Spans.{owner, pageCount, isFree}
+use Rattle.model.specs.Spans.{pageCount, isFree}
 use Rattle.model.specs.Cycle.{sweptTable, nothingLeft}
 use Rattle.model.specs.Allocate.{runLength, isShortest, bestRun}
 use Rattle.model.specs.Facts.{IsSpan, Audited}
@@ -43,8 +43,11 @@ module _ {h : Heap} (F : Audited h) (s : ℕ) (span : IsSpan (h .table) s) (left
       go : (b : Bool) → ltb (firstBelow n returned) n ≡ b → (j : ℕ) × (j < n) × (within s k (r + j) ≡ true)
       go true e = let m = ltb-true (firstBelow n returned) n e in (firstBelow n returned, m, first-props n returned .holds m)
       go false e =
-          let was = λ (j : ℕ) (m : j < n). rw (outside F s span (r + j) (first-props n returned .before j (omega (arith, ltb-false (firstBelow n returned) n e))) .0) at (f j m) in
-          absurd (omega (arith, best-there P t n r some l was))
+          absurd (omega (
+            arith,
+            best-there P t n r some l (λ j m.
+                rw (outside F s span (r + j) (first-props n returned .before j (omega (arith, ltb-false (firstBelow n returned) n e))) .0) at (f j m)),
+          ))
 
   pub around : bestRun P u n < P → n ≤ runLength P u (runStart u s)
   around l = go (leb r s) refl
@@ -77,4 +80,7 @@ module _ {h : Heap} (F : Audited h) (s : ℕ) (span : IsSpan (h .table) s) (left
     where
       go : (b : Bool) → ltb (bestRun P u n) P ≡ b → bestRun P u n ≡ P
       go true q = absurd (omega (arith, around (ltb-true (bestRun P u n) P q), leb-false n (runLength P u (runStart u s)) e))
-      go false q = omega (arith, ltb-false (bestRun P u n) P q, unfold bestRun in first-props P (isShortest P u n) .within)
+      go false q = omega (arith, ltb-false (bestRun P u n) P q, most)
+        where
+          most : bestRun P u n ≤ P
+          most = unfold bestRun in first-props P (isShortest P u n) .within

@@ -12,14 +12,14 @@ use borrow.Author.Tests.{eqb-true, eqb-false}
 use Rattle.model.specs.Memory.{Heap, lent, unsweptFlag}
 use Rattle.model.specs.Spans.{kindEntry}
 use Rattle.model.specs.Cycle.{sweptTable, sweptBits, sweptSpan}
-use Rattle.model.specs.Allocate.{nextUnswept, sweptUntil}
+use Rattle.model.specs.Allocate.{isNext, nextUnswept, sweptUntil}
 use Rattle.model.specs.Facts.{IsSpan, Audited}
 use Rattle.model.proofs.Tests.{is-true}
 use Rattle.model.proofs.Bounded.{first-props, first-is}
 use Rattle.keeps.proofs.Swept.{span-kept}
 use Rattle.keeps.proofs.Unswept.{loop-ends, loop-goes}
 use Rattle.keeps.proofs.Beside.{next-above, as-facts}
-use Rattle.room_sweeps.specs.Needs.{LentAudited, isNext, SweptIf}
+use Rattle.room_sweeps.specs.Needs.{LentAudited, SweptIf}
 
 -- a test says no more of the spans that are left where the span at page s is swept
 abbrev pub Steady : (Heap → ℕ → Bool) → Type 0
@@ -99,7 +99,7 @@ module _ {goal : Heap → Bool} {test : Heap → ℕ → Bool} {p : ℕ} {t₀ b
   ends-met l a o F₀ e g = sym (turned l a o F₀ e .goes ∙ loop-ends goal test (sweptSpan s (lent p a t b o)) (inl g))
 
   -- one turn more that does not
-  pub goes-on : Steady test → s < p → {t′ b′ : List ℕ} → ((a o : List ℕ) → SweptIf (isNext test (lent p a t b o) s) (lent p a t b o) s t′ b′) →
+  pub goes-on : Steady test → s < p → {t′ b′ : List ℕ} → ((a o : List ℕ) → Audited (lent p a t b o) → SweptIf (isNext test (lent p a t b o) s) (lent p a t b o) s t′ b′) →
       ((a o : List ℕ) → Audited (lent p a t₀ b₀ o) → goal (lent p a t′ b′ o) ≡ false) → Under goal test p t₀ b₀ t′ b′ (s + 1)
   goes-on Y l {t′} {b′} X g = record {
     kept = λ a o F₀. one a o F₀ .0;
@@ -112,7 +112,7 @@ module _ {goal : Heap → Bool} {test : Heap → ℕ → Bool} {p : ℕ} {t₀ b
       After a o h′ = Audited h′ × (sweptUntil goal test (lent p a t₀ b₀ o) ≡ sweptUntil goal test h′) × (s + 1 ≤ nextUnswept test h′)
 
       one : (a o : List ℕ) → Audited (lent p a t₀ b₀ o) → After a o (lent p a t′ b′ o)
-      one a o F₀ = rw (X a o .table, X a o .bits) (go (isNext test h s) refl)
+      one a o F₀ = let Y₁ = X a o (U .kept a o F₀) in rw (Y₁ .table, Y₁ .bits) (go (isNext test h s) refl)
         where
           h : Heap
           h = lent p a t b o

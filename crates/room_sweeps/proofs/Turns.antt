@@ -6,11 +6,12 @@ use mathlib.Core.List.{List}
 use mathlib.Core.Logic.{_≢_}
 use mathlib.Core.Path.{_≡_, refl, ap, sym, _∙_}
 use native.Mathlib.Omega.{arith}
+use lib.Dec.{leb}
 use borrow.Author.Tests.{ne-eqb, eq-eqb, lt-ltb, le-ltb, ltb-false}
 use Rattle.model.specs.Memory.{Heap, lent, unsweptFlag}
 use Rattle.model.specs.Spans.{kindEntry, kindAt, startsSpan, isUnswept}
 use Rattle.model.specs.Cycle.{sweptTable, sweptBits, sweptSpan, nothingLeft}
-use Rattle.model.specs.Allocate.{hasRoom, bestRun, isShortest, elementFree, pagesFree, ofKind, anySpan}
+use Rattle.model.specs.Allocate.{isNext, hasRoom, bestRun, isShortest, runLength, elementFree, pagesFree, ofKind, anySpan}
 use Rattle.model.specs.Facts.{Spans, IsSpan, Audited}
 use Rattle.model.proofs.Tests.{is-true, clash}
 use Rattle.model.proofs.Bounded.{first-props}
@@ -26,7 +27,9 @@ use Rattle.page_entries.specs.declared.Unswept.{Unswept}
 use Rattle.span_sweep.specs.Needs.{SpanRead, SweepsSpan}
 use Rattle.span_sweep.specs.declared.SpanSwept.{SpanSwept}
 use Rattle.span_sweep.proofs.Bounds.{span-read}
-use Rattle.room_sweeps.specs.Needs.{LentAudited, isNext, KindSwept, PagesSwept, KindDone, PagesDone}
+use Rattle.room_sweeps.specs.Needs.{LentAudited, KindTurned, PagesTurned, KindDone, PagesDone}
+use Rattle.page_runs.specs.Around.{runStart}
+use Rattle.room_sweeps.proofs.Around.{none-around}
 use Rattle.room_sweeps.proofs.Loop.{Steady, Under, turned, ends-met, ends-none}
 
 -- whether the next span is at page s, by what was found there
@@ -66,11 +69,11 @@ module _ {p : ℕ} {t b : List ℕ} (S : LentAudited p t b) {s : ℕ} {x : Unswe
 
 -- ELEMENTS. A turn that finds no span of the kind, and one that sweeps it
 module _ (kind s : ℕ) (h : Heap) (r : Free) where
-  pub no-span : isNext (ofKind kind) h s ≡ false → r .found ≡ false → KindSwept kind s h r (h .table) (h .bits)
+  pub no-span : isNext (ofKind kind) h s ≡ false → r .found ≡ false → KindTurned kind s h r (h .table) (h .bits)
   no-span e z = record { swept = record { table = rw e; bits = rw e }; found = rw e z; word = λ t. clash (r .found) t z }
 
   pub swept-one : isNext (ofKind kind) h s ≡ true → {g : ℕ} {x : SpanSwept} {t b : List ℕ} → g ≡ s → SweepsSpan h g x t b → FreeIn (lent (h .pages) (h .arena) t b (h .roots)) kind s r →
-      KindSwept kind s h r t b
+      KindTurned kind s h r t b
   swept-one e q Y₀ Y =
       let W = rw q at Y₀ in
       let Z : FreeIn (sweptSpan s h) kind s r = rw (W .table, W .bits) at Y in
@@ -80,7 +83,7 @@ pub kind-steady : (kind : ℕ) → Steady (ofKind kind)
 kind-steady kind h F s i u x j k e = rw (kind-beside F s i u x j k) at e
 
 module _ {kind p : ℕ} {t₀ b₀ t b : List ℕ} {s : ℕ} (U : Under (elementFree kind) (ofKind kind) p t₀ b₀ t b s) (l : s < p) {r : Free} {t′ b′ : List ℕ}
-    (K : (a o : List ℕ) → KindSwept kind s (lent p a t b o) r t′ b′) where
+    (K : (a o : List ℕ) → KindTurned kind s (lent p a t b o) r t′ b′) where
   pub not-found : r .found ≡ false → (a o : List ℕ) → Audited (lent p a t₀ b₀ o) → elementFree kind (lent p a t′ b′ o) ≡ false
   not-found z a o F₀ = rw (K a o .swept .table, K a o .swept .bits) (go (isNext (ofKind kind) h s) refl)
     where
@@ -121,14 +124,14 @@ no-more U l {r} z a o F₀ = record {
 
 -- PAGES. A turn that finds no span, one whose span stays, and one whose pages are returned
 module _ (n s : ℕ) (h : Heap) where
-  pub none-swept : isNext anySpan h s ≡ false → PagesSwept n s h (h .pages) (h .table) (h .bits)
+  pub none-swept : isNext anySpan h s ≡ false → PagesTurned n s h (h .pages) (h .table) (h .bits)
   none-swept e = record { swept = record { table = rw e; bits = rw e }; run = rw e }
 
   module _ (e : isNext anySpan h s ≡ true) {g : ℕ} {x : SpanSwept} {t b : List ℕ} (q : g ≡ s) (Y : SweepsSpan h g x t b) where
     here : SweepsSpan h s x t b
     here = rw q at Y
 
-    pub stays-swept : Spans (h .pages) (h .table) → x .returned ≡ 0 → PagesSwept n s h (h .pages) t b
+    pub stays-swept : Spans (h .pages) (h .table) → x .returned ≡ 0 → PagesTurned n s h (h .pages) t b
     stays-swept F z = record { swept = record { table = rw e (here .table); bits = rw e (here .bits) }; run = rw e (go (nothingLeft h s) refl) }
       where
         span : IsSpan (h .table) s
@@ -138,20 +141,35 @@ module _ (n s : ℕ) (h : Heap) where
         go true w = absurd (omega (arith, fits F s span .pages, rw w at (here .returned)))
         go false w = refl
 
-    pub returned-swept : {r : ℕ} → x .returned ≢ 0 → r ≡ bestRun (h .pages) t n → PagesSwept n s h r t b
+    pub returned-swept : {r : ℕ} → x .returned ≢ 0 → r ≡ bestRun (h .pages) t n → PagesTurned n s h r t b
     returned-swept {r} d v = record { swept = record { table = rw e (here .table); bits = rw e (here .bits) }; run = rw e (go (nothingLeft h s) refl) }
       where
         go : (c : Bool) → nothingLeft h s ≡ c → r ≡ cond c (bestRun (h .pages) (sweptTable h s) n) (h .pages)
         go true w = rw (here .table) at v
         go false w = absurd (d (rw w at (here .returned)))
 
+    -- .. where the run around them is too short
+    pub short-swept : Audited h → 0 < n → h .pages ≤ bestRun (h .pages) (h .table) n → x .returned ≢ 0 →
+        leb n (runLength (h .pages) t (runStart t s)) ≡ false → PagesTurned n s h (h .pages) t b
+    short-swept F some none d v = record { swept = record { table = rw e (here .table); bits = rw e (here .bits) }; run = rw e (go (nothingLeft h s) refl) }
+      where
+        span : IsSpan (h .table) s
+        span = as-facts (h .table) s true (is-true _ e) .0
+
+        go : (c : Bool) → nothingLeft h s ≡ c → h .pages ≡ cond c (bestRun (h .pages) (sweptTable h s) n) (h .pages)
+        go true w = sym (none-around F s span w n some none (rw (here .table) at v))
+        go false w = absurd (d (rw w at (here .returned)))
+
 pub any-steady : Steady anySpan
 any-steady h F s i u x j k e = tt
 
 module _ {n p : ℕ} {t₀ b₀ t b : List ℕ} {s : ℕ} (U : Under (pagesFree n) anySpan p t₀ b₀ t b s) (l : s < p) {r : ℕ} {t′ b′ : List ℕ}
-    (K : (a o : List ℕ) → PagesSwept n s (lent p a t b o) r t′ b′) where
+    (K : (a o : List ℕ) → Audited (lent p a t b o) → PagesTurned n s (lent p a t b o) r t′ b′) where
+  at : (a o : List ℕ) → Audited (lent p a t₀ b₀ o) → PagesTurned n s (lent p a t b o) r t′ b′
+  at a o F₀ = K a o (U .kept a o F₀)
+
   pub no-run : p ≤ r → (a o : List ℕ) → Audited (lent p a t₀ b₀ o) → pagesFree n (lent p a t′ b′ o) ≡ false
-  no-run z a o F₀ = rw (K a o .swept .table) (go (isNext anySpan h s) refl)
+  no-run z a o F₀ = rw (at a o F₀ .swept .table) (go (isNext anySpan h s) refl)
     where
       h : Heap
       h = lent p a t b o
@@ -160,7 +178,7 @@ module _ {n p : ℕ} {t₀ b₀ t b : List ℕ} {s : ℕ} (U : Under (pagesFree 
       go true e = left (nothingLeft h s) refl
         where
           left : (d : Bool) → nothingLeft h s ≡ d → pagesFree n (sweptSpan s h) ≡ false
-          left true w = let v = rw (e, w) at (K a o .run) in le-ltb (bestRun p (sweptTable h s) n) p (rw v at z)
+          left true w = let v = rw (e, w) at (at a o F₀ .run) in le-ltb (bestRun p (sweptTable h s) n) p (rw v at z)
           left false w = let W = turned U l a o F₀ e in runs-stay (U .kept a o F₀) s (W .span) (W .unswept) n w ∙ U .unmet a o F₀
       go false e = U .unmet a o F₀
 
@@ -172,13 +190,13 @@ module _ {n p : ℕ} {t₀ b₀ t b : List ℕ} {s : ℕ} (U : Under (pagesFree 
 
       go : (c : Bool) → isNext anySpan h s ≡ c → (d : Bool) → nothingLeft h s ≡ d → PagesDone n (lent p a t₀ b₀ o) (lent p a t′ b′ o) r
       go true e true w =
-          let v : r ≡ bestRun p (sweptTable h s) n = rw (e, w) at (K a o .run) in
-          rw (K a o .swept .table, K a o .swept .bits, e) (record {
+          let v : r ≡ bestRun p (sweptTable h s) n = rw (e, w) at (at a o F₀ .run) in
+          rw (at a o F₀ .swept .table, at a o F₀ .swept .bits, e) (record {
             heap = ends-met U l a o F₀ e (is-true _ (lt-ltb (bestRun p (sweptTable h s) n) p (rw v at z)));
             run = v;
           })
-      go true e false w = absurd (omega (arith, rw (e, w) at (K a o .run)))
-      go false e d w = absurd (omega (arith, rw e at (K a o .run)))
+      go true e false w = absurd (omega (arith, rw (e, w) at (at a o F₀ .run)))
+      go false e d w = absurd (omega (arith, rw e at (at a o F₀ .run)))
 
 pub no-more-runs : {n p : ℕ} {t₀ b₀ t b : List ℕ} {s : ℕ} → Under (pagesFree n) anySpan p t₀ b₀ t b s → p ≤ s →
     (a o : List ℕ) → Audited (lent p a t₀ b₀ o) → PagesDone n (lent p a t₀ b₀ o) (lent p a t b o) p

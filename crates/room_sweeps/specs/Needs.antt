@@ -6,9 +6,9 @@ use mathlib.Core.List.{List}
 use mathlib.Core.Path.{_≡_}
 use denote.Ref.{now}
 use Rattle.model.specs.Memory.{Heap, lent}
-use Rattle.model.specs.Spans.{startsSpan, isUnswept, elementStart}
+use Rattle.model.specs.Spans.{elementStart}
 use Rattle.model.specs.Cycle.{sweptTable, sweptBits, sweptSpan, nothingLeft}
-use Rattle.model.specs.Allocate.{freeElement, hasRoom, bestRun, elementFree, pagesFree, ofKind, anySpan, sweptUntil}
+use Rattle.model.specs.Allocate.{freeElement, hasRoom, bestRun, elementFree, pagesFree, ofKind, anySpan, isNext, sweptUntil}
 use Rattle.model.specs.Facts.{Audited}
 use Rattle.model.specs.Contracts.{Buffer}
 use Rattle.element_search.specs.Free.{FreeOf}
@@ -26,33 +26,30 @@ NoElement kind p t b = (a o : List ℕ) → elementFree kind (lent p a t b o) �
 abbrev pub NoRun : ℕ → ℕ → List ℕ → Type 0
 NoRun n p t = p ≤ bestRun p t n
 
--- an unswept span that passes a test starts at page s
-abbrev pub isNext : (Heap → ℕ → Bool) → Heap → ℕ → Bool
-isNext test h s = startsSpan (h .table) s && isUnswept (h .table) s && test h s
-
 -- the page table and the bitmaps, the span at page s swept where it is to be
 pub record SweptIf (next : Bool) (h : Heap) (s : ℕ) (t b : List ℕ) : Type 0 where
   pub table : t ≡ cond next (sweptTable h s) (h .table)
   pub bits : b ≡ cond next (sweptBits h s) (h .bits)
 
 -- one turn: the span of the kind at page s, and the free element that it then has
-pub record KindSwept (kind s : ℕ) (h : Heap) (r : Free) (t b : List ℕ) : Type 0 where
+pub record KindTurned (kind s : ℕ) (h : Heap) (r : Free) (t b : List ℕ) : Type 0 where
   pub swept : SweptIf (isNext (ofKind kind) h s) h s t b
   pub found : r .found ≡ (isNext (ofKind kind) h s && hasRoom (sweptSpan s h) kind s)
   pub word : r .found ≡ true → r .word .0 ≡ elementStart (sweptTable h s) s (freeElement (sweptSpan s h) s)
 
 abbrev pub KindTurn : ℕ → ℕ → ℕ → Buffer → Buffer → Free → Type 0
 KindTurn kind s p table bits r =
-    (a o : List ℕ) → KindSwept kind s (lent p a (now (table .entry)) (now (bits .entry)) o) r (now (table .exit)) (now (bits .exit))
+    (a o : List ℕ) → KindTurned kind s (lent p a (now (table .entry)) (now (bits .entry)) o) r (now (table .exit)) (now (bits .exit))
 
 -- .. any span at page s, and the best run of n pages where its own were returned
-pub record PagesSwept (n s : ℕ) (h : Heap) (r : ℕ) (t b : List ℕ) : Type 0 where
+pub record PagesTurned (n s : ℕ) (h : Heap) (r : ℕ) (t b : List ℕ) : Type 0 where
   pub swept : SweptIf (isNext anySpan h s) h s t b
   pub run : r ≡ cond (isNext anySpan h s && nothingLeft h s) (bestRun (h .pages) (sweptTable h s) n) (h .pages)
 
 abbrev pub PageTurn : ℕ → ℕ → ℕ → Buffer → Buffer → Page → Type 0
 PageTurn n s p table bits r =
-    (a o : List ℕ) → PagesSwept n s (lent p a (now (table .entry)) (now (bits .entry)) o) (r .0) (now (table .exit)) (now (bits .exit))
+    (a o : List ℕ) → let h = lent p a (now (table .entry)) (now (bits .entry)) o in
+    Audited h → PagesTurned n s h (r .0) (now (table .exit)) (now (bits .exit))
 
 -- all of them: the heap is the one that the sweeps for an element leave, and its lowest free element is found
 pub record KindDone (kind : ℕ) (h h′ : Heap) (r : Free) : Type 0 where

@@ -1,7 +1,7 @@
 // Sweeps that make room for an allocation: unswept spans of a kind until one has a free element, and
 // unswept spans of any kind until a run of pages is long enough. Each loop goes over the page table
-// once: a sweep makes room in its own span alone, or frees its pages, so that what the loop has passed
-// need not be looked at again (crate keeps, proofs/Beside.antt).
+// once: a sweep makes room in its own span, or lengthens the run of free pages around it, and nowhere
+// else (crate keeps, proofs/Beside.antt, and proofs/Around.antt here).
 ghost use mathlib.Core.Bool.{false};
 ghost use mathlib.Core.Path.{_≡_};
 ghost use Prim.Native.Nat.{_<_};
@@ -58,10 +58,10 @@ pub fn sweep_kind(p: usize, table: &mut [u32], bits: &mut [u64], kind: usize) ->
     nothing()
 }
 
-// Sweeps the unswept span that starts at page s, if one does, and looks for n pages if its own were
-// returned: the best run, or p.
+// Sweeps the unswept span that starts at page s, if one does, where no run of n pages is free: the best
+// run, or p. If its pages are returned, the run around them alone can have become long enough.
 fn sweep_any(p: usize, table: &mut [u32], bits: &mut [u64], n: usize, s: Page) -> Page
-    requires { ⌜ LentAudited p (now table) (now bits) × (s .0 < p) × (0 < n) ⌝ }
+    requires { ⌜ LentAudited p (now table) (now bits) × (s .0 < p) × (0 < n) × NoRun n p (now table) ⌝ }
     ensures { λ r. ⌜ PageTurn n (s .0) p table bits r ⌝ }
 {
     let next = page_entries::unswept_at(table, s);
@@ -71,6 +71,9 @@ fn sweep_any(p: usize, table: &mut [u32], bits: &mut [u64], n: usize, s: Page) -
     }
     let swept = span_sweep::sweep(p, table, bits, next.span);
     if swept.returned == 0 {
+        return Page(p);
+    }
+    if !page_runs::fits_around(p, table, s, n) {
         return Page(p);
     }
     page_runs::best_run(p, table, n)

@@ -15,7 +15,7 @@ abbrev swept : tie.After-slice-known4 → tie.After-sweep-pages
 swept c = c .before .before .before .before
 
 best-run-requires : tie.Need-best-run-requires
-best-run-requires c κs = let s = c .before .before .before in (s .pre .0 .2 .sized .table, s .pre .2)
+best-run-requires c κs = let s = c .before .before .before in (s .pre .0 .2 .sized .table, omega (arith, s .pre .2))
 
 returns : tie.Need-returns
 returns c a o F =

@@ -1,13 +1,16 @@
--- `room_sweeps::sweep_any` meets its contract: no unswept span there, one that stays, or one whose pages are returned.
+-- `room_sweeps::sweep_any` meets its contract: no unswept span there, one that stays, one whose pages are returned and do
+-- not fit, or do.
 use Prim.Native.Nat.{ℕ}
 use mathlib.Core.List.{List}
+use mathlib.Core.Path.{sym, _∙_}
 use native.Mathlib.Omega.{arith}
 use borrow.Author.Tests.{not-true, not-false}
 use denote.Ref.{now}
 use borrow.Author.Needs.{needs}
 use Rattle.model.specs.Memory.{Heap, lent}
 use Rattle.model.specs.Allocate.{anySpan}
-use Rattle.room_sweeps.proofs.Turns.{no-next, next-any, readable, swept-mapped, none-swept, stays-swept, returned-swept}
+use Rattle.model.specs.Lent.{PageTable}
+use Rattle.room_sweeps.proofs.Turns.{no-next, next-any, readable, swept-mapped, none-swept, stays-swept, short-swept, returned-swept}
 use Rattle.room_sweeps.proofs.sweep_any.Statement.{statement}
 use Rattle.room_sweeps.proofs.sweep_any.Tie as tie
 
@@ -25,8 +28,16 @@ swept c = c .before .before .before .before .before
 abbrev heap : tie.Start → List ℕ → List ℕ → Heap
 heap s a o = lent (s .args .p) a (now (s .args .table)) (now (s .args .bits)) o
 
+-- what the search needs of the table that the sweep left
+left : (c : tie.After-struct-known) → let s = start (looked (swept c) .before) in PageTable (s .args .p) (swept c .sweep .last .1 .0)
+left c =
+    let w = swept c in
+    let e = looked w in
+    let d = e .before in
+    swept-mapped (start d .pre .0) (d .unswept-at .ensures) (not-false _ (e .if1 .left)) (w .sweep .ensures) .table
+
 returns : tie.Need-returns
-returns c a o =
+returns c a o F =
     let d = c .before in
     let s = start d in
     let h = heap s a o in
@@ -39,7 +50,7 @@ sweep-requires c κs =
     readable (start d .pre .0) (d .unswept-at .ensures) (not-false _ (e .if1 .left))
 
 returns-2 : tie.Need-returns-2
-returns-2 c a o =
+returns-2 c a o F =
     let w = swept (c .before) in
     let e = looked w in
     let d = e .before in
@@ -47,18 +58,33 @@ returns-2 c a o =
     let h = heap s a o in
     let z = not-false _ (e .if1 .left) in
     stays-swept (s .args .n) (s .args .s .0) h (next-any h (s .args .s .0) _ (d .unswept-at .ensures) z) (d .unswept-at .ensures .reads z .start) (w .sweep .ensures a o)
-    (s .pre .0 .2 .spans) (c .if2 .taken)
+    (F .spans) (c .if2 .taken)
+
+fits-around-requires : tie.Need-fits-around-requires
+fits-around-requires c κs =
+    let f = c .before .before in
+    (left f, omega (arith, start (looked (swept f) .before) .pre .1))
+
+returns-3 : tie.Need-returns-3
+returns-3 c a o F =
+    let f = c .before .before .before in
+    let w = swept (f .before) in
+    let e = looked w in
+    let d = e .before in
+    let s = start d in
+    let h = heap s a o in
+    let z = not-false _ (e .if1 .left) in
+    short-swept (s .args .n) (s .args .s .0) h (next-any h (s .args .s .0) _ (d .unswept-at .ensures) z) (d .unswept-at .ensures .reads z .start) (w .sweep .ensures a o)
+    F (s .pre .2) (s .pre .3) (f .if2 .left) (sym (c .before .fits-around .ensures) ∙ not-true _ (c .if3 .taken))
 
 best-run-requires : tie.Need-best-run-requires
 best-run-requires c κs =
-    let w = swept (c .before .before) in
-    let e = looked w in
-    let d = e .before in
-    (swept-mapped (start d .pre .0) (d .unswept-at .ensures) (not-false _ (e .if1 .left)) (w .sweep .ensures) .table, omega (arith, start d .pre .2))
+    let f = c .before .before .before .before .before in
+    (left f, omega (arith, start (looked (swept f) .before) .pre .2))
 
-returns-3 : tie.Need-returns-3
-returns-3 c a o =
-    let f = c .before .before in
+returns-4 : tie.Need-returns-4
+returns-4 c a o F =
+    let f = c .before .before .before .before .before in
     let w = swept (f .before) in
     let e = looked w in
     let d = e .before in
@@ -71,5 +97,5 @@ returns-3 c a o =
 pub sweep-any-spec : {M : Type 1} → statement M
 sweep-any-spec =
     tie.close
-    (tie.spec (λ c κs. search needs) (λ c. search needs) returns sweep-requires (λ c. search needs) (λ c. search needs) returns-2 best-run-requires
-    (λ c. search needs) (λ c. search needs) returns-3)
+    (tie.spec (λ c κs. search needs) (λ c. search needs) returns sweep-requires (λ c. search needs) (λ c. search needs) returns-2 fits-around-requires
+    (λ c. search needs) (λ c. search needs) returns-3 best-run-requires (λ c. search needs) (λ c. search needs) returns-4)

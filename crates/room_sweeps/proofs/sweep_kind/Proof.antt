@@ -44,7 +44,7 @@ loop-again c =
     let t = turn w in
     let U = t .before .loop .inv .1 in
     let l = t .loop-test .taken in
-    (omega arith, goes-on U (kind-steady _) l (λ a o. w .sweep-of-kind .ensures a o .swept) (not-found U l (w .sweep-of-kind .ensures) (c .if1 .left)))
+    (omega arith, goes-on U (kind-steady _) l (λ a o _. w .sweep-of-kind .ensures a o .swept) (not-found U l (w .sweep-of-kind .ensures) (c .if1 .left)))
 
 returns-2 : tie.Need-returns-2 Inv-loop μ-loop
 returns-2 c = let e = c .before in no-more (e .before .loop .inv .1) (e .loop-test .left) (c .nothing .ensures)

@@ -1,7 +1,7 @@
 -- The invariant: no unswept span starts below page s, no run is long enough, and what is left to do is what was to do at the beginning.
 use Prim.Native.Nat.{_≤_, _-_}
 use native.Mathlib.Omega.{arith}
-use borrow.Author.Tests.{le-ltb}
+use borrow.Author.Tests.{le-ltb, ltb-false}
 use borrow.Author.Needs.{needs}
 use Rattle.model.specs.Allocate.{pagesFree, anySpan}
 use Rattle.room_sweeps.proofs.Loop.{Under, begun, still, same-table, same-bits, goes-on}
@@ -31,7 +31,10 @@ loop-holds c = let s = c .before .before in (omega arith, begun _ _ (λ a o. le-
 sweep-any-requires : tie.Need-sweep-any-requires Inv-loop μ-loop
 sweep-any-requires c κs =
     let t = c .before .before in
-    (still (t .before .loop .inv .1) (start (t .before) .pre .0), omega (arith, t .loop-test .taken), start (t .before) .pre .2)
+    let U = t .before .loop .inv .1 in
+    let s = start (t .before) in
+    let S = s .pre .0 in
+    (still U S, omega (arith, t .loop-test .taken), s .pre .2, ltb-false _ _ (U .unmet (S .0) (S .1) (S .2)))
 
 returns : tie.Need-returns Inv-loop μ-loop
 returns c =
@@ -45,7 +48,7 @@ loop-again c =
     let t = turn w in
     let U = t .before .loop .inv .1 in
     let l = t .loop-test .taken in
-    (omega arith, goes-on U any-steady l (λ a o. w .sweep-any .ensures a o .swept) (no-run U l (w .sweep-any .ensures) (c .if1 .left)))
+    (omega arith, goes-on U any-steady l (λ a o F. w .sweep-any .ensures a o F .swept) (no-run U l (w .sweep-any .ensures) (c .if1 .left)))
 
 returns-2 : tie.Need-returns-2 Inv-loop μ-loop
 returns-2 c = no-more-runs (c .before .loop .inv .1) (c .loop-test .left)
