@@ -2,9 +2,9 @@
  *
  * Every function takes the number of pages P and four buffers, each as a pointer and a length. The
  * lengths have to be exactly those below; anything else is refused, and a refused call changes no
- * word. The buffers and `values` must not overlap, and each pointer must be that of `length` words,
- * which may be written where it is not `const`. What the buffers hold is not trusted: every call but
- * heap_setup audits them first.
+ * word, but for heap_alloc refused 9. The buffers and `values` must not overlap, and each pointer
+ * must be that of `length` words, which may be written where it is not `const`. What the buffers hold
+ * is not trusted: every call but heap_setup audits them first.
  *
  *   arena     1024 * P words of 64 bits
  *   table        3 * P numbers of 32 bits

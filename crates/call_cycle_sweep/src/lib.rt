@@ -1,5 +1,5 @@
 // The sweep step of a cycle: the lowest unswept span is swept, by crate span_sweep. The span is read
-// once and handed on; no word of the arena is read. It is taken after the audit.
+// once and handed on; no word of the arena is read. The step is made after the audit.
 ghost use Rattle.model.specs.Cycle.{sweepStep};
 ghost use Rattle.model.specs.Contracts.{AuditedTables, DoesWithoutArena};
 use model::Answer;

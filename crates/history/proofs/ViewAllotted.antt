@@ -1,4 +1,4 @@
--- Allocation and sweep step, seen as the theory's steps.
+-- An allocation and the sweep of a span, seen as the theory's steps.
 use Prim.Native.Nat.{ℕ, _+_, _*_, _/_, _<_, _≤_}
 use mathlib.Core.List.{List}
 use mathlib.Core.Bool.{Bool, true, false, not, cond, _&&_, and-false}

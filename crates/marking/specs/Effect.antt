@@ -6,7 +6,8 @@ use mathlib.Core.Bool.{Bool, true, false, not, cond, _&&_, _||_}
 use Prim.Native.Nat.{ℕ}
 
 infix 50 _is_
--- none: most calls, a refused call among them. works: a mark step that takes a gray record. ends: the sweep step that ends a cycle; sweeps: any other
+-- none: most calls, a refused call among them. works: a mark step that takes a gray record. ends: the sweep step that ends a cycle; sweeps: any other,
+-- and each sweep inside a call
 pub data Effect : Type 0 where
   none setsUp starts works finishes sweeps ends : Effect
   deriving Discrete as same
@@ -33,7 +34,7 @@ isSweep e = e is sweeps || e is ends
 abbrev pub asNumber : Bool → ℕ
 asNumber b = cond b 1 0
 
--- how often, once or not at all, a call turns off a bit that was `before` and is `after` it: only a sweep step counts
+-- how often, once or not at all, a call turns off a bit that was `before` and is `after` it: only a sweep counts
 abbrev pub turnedOff : Effect → Bool → Bool → ℕ
 turnedOff e before after = asNumber (isSweep e && before && not after)
 

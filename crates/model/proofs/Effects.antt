@@ -1,4 +1,4 @@
--- What the calls leave, part by part: the bits after a birth and after a sweep step, and the span that has room. Demand 3 cites these laws; the
+-- What the calls leave, part by part: the bits after a birth and after a sweep, and the span that has room. Demand 3 cites these laws; the
 -- barrier, an allocation, a start, a scan and a swept page table it unfolds where it needs them. A wrong rule is refused in proofs/Tempting.antt, at the
 -- fact that it loses; where that fact says all of one part, it stands in the law here.
 use Prim.Native.Nat.{ℕ, _+_, _*_, _/_, _%_, _<_, _≤_}

@@ -125,7 +125,7 @@ module _ (h : Heap) (Z : Sized h) where
     pub inside : pageWords * s + pageWords * pageCount (h .table) s ≤ pageWords * h .pages
     inside = omega arith
 
-    -- a sweep step leaves allocated what is marked, and a pointer bit where its element is
+    -- the sweep of a span leaves allocated what is marked, and a pointer bit where its element is
     pub swept-allocated : (v : ℕ) → bit (h .pages) allocated (sweptBits h s) v ≡ cond (swept v) (is marked h v) (is allocated h v)
     unfolding sweptBits
     swept-allocated v = let i = inside in simp written refl
