@@ -1,15 +1,14 @@
 // Runs of free pages of the page table: how long one is, and the best run for a number of pages, as the
-// model's specs/Allocate.antt defines them; and whether a number of pages fits in the run around a page
-// (fits_around), by specs/Around.antt. Crate page_table reads the entries of spans; this is a crate
-// apart from it for the gate's time: each wrong program proves its whole crate again.
+// model's specs/Allocate.antt defines them; and the run around a page, if it is long enough, as
+// specs/Around.antt defines it. Crate page_table reads the entries of spans; this is a crate apart from
+// it for the gate's time: each wrong program proves its whole crate again.
 ghost use mathlib.Core.Path.{_≡_};
 ghost use Prim.Native.Nat.{_*_, _<_, _≤_};
 ghost use lib.ListN.{length};
-ghost use Rattle.model.specs.Bounded.{_≤?_};
 ghost use Rattle.model.specs.Memory.{entryNumbers};
 ghost use Rattle.model.specs.Allocate.{runLength, bestRun};
 ghost use Rattle.model.specs.Lent.{PageTable};
-ghost use Rattle.page_runs.specs.Around.{runStart};
+ghost use Rattle.page_runs.specs.Around.{runStart, runAround};
 use units::ENTRY_NUMBERS;
 use units::Page;
 
@@ -70,12 +69,15 @@ fn run_start(table: &[u32], s: Page) -> Page
     Page(first)
 }
 
-// Whether the run of free pages around page s has at least n pages.
-pub fn fits_around(p: usize, table: &[u32], s: Page, n: usize) -> bool
+// The first page of the run of free pages around page s if it has at least n pages, or p.
+pub fn run_around(p: usize, table: &[u32], s: Page, n: usize) -> Page
     requires { ⌜ PageTable p (now table) × (s .0 < p) ⌝ }
-    ensures { λ r. ⌜ r ≡ (n ≤? runLength p (now (table .entry)) (runStart (now (table .entry)) (s .0))) ⌝ }
+    ensures { λ r. ⌜ r .0 ≡ runAround p (now (table .entry)) (s .0) n ⌝ }
 {
     let start = run_start(table, s);
     let pages = run_length(p, table, start);
-    n <= pages
+    if n <= pages {
+        return start;
+    }
+    Page(p)
 }

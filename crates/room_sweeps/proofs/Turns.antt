@@ -6,12 +6,11 @@ use mathlib.Core.List.{List}
 use mathlib.Core.Logic.{_≢_}
 use mathlib.Core.Path.{_≡_, refl, ap, sym, _∙_}
 use native.Mathlib.Omega.{arith}
-use lib.Dec.{leb}
 use borrow.Author.Tests.{ne-eqb, eq-eqb, lt-ltb, le-ltb, ltb-false}
 use Rattle.model.specs.Memory.{Heap, lent, unsweptFlag}
 use Rattle.model.specs.Spans.{kindEntry, kindAt, startsSpan, isUnswept}
 use Rattle.model.specs.Cycle.{sweptTable, sweptBits, sweptSpan, nothingLeft}
-use Rattle.model.specs.Allocate.{isNext, hasRoom, bestRun, isShortest, runLength, elementFree, pagesFree, ofKind, anySpan}
+use Rattle.model.specs.Allocate.{isNext, hasRoom, bestRun, isShortest, elementFree, pagesFree, ofKind, anySpan}
 use Rattle.model.specs.Facts.{Spans, IsSpan, Audited}
 use Rattle.model.proofs.Tests.{is-true, clash}
 use Rattle.model.proofs.Bounded.{first-props}
@@ -28,8 +27,8 @@ use Rattle.span_sweep.specs.Needs.{SpanRead, SweepsSpan}
 use Rattle.span_sweep.specs.declared.SpanSwept.{SpanSwept}
 use Rattle.span_sweep.proofs.Bounds.{span-read}
 use Rattle.room_sweeps.specs.Needs.{LentAudited, KindTurned, PagesTurned, KindDone, PagesDone}
-use Rattle.page_runs.specs.Around.{runStart}
-use Rattle.room_sweeps.proofs.Around.{none-around}
+use Rattle.page_runs.specs.Around.{runAround}
+use Rattle.room_sweeps.proofs.Around.{best-around}
 use Rattle.room_sweeps.proofs.Loop.{Steady, Under, turned, ends-met, ends-none}
 
 -- whether the next span is at page s, by what was found there
@@ -141,23 +140,15 @@ module _ (n s : ℕ) (h : Heap) where
         go true w = absurd (omega (arith, fits F s span .pages, rw w at (here .returned)))
         go false w = refl
 
-    pub returned-swept : {r : ℕ} → x .returned ≢ 0 → r ≡ bestRun (h .pages) t n → PagesTurned n s h r t b
-    returned-swept {r} d v = record { swept = record { table = rw e (here .table); bits = rw e (here .bits) }; run = rw e (go (nothingLeft h s) refl) }
-      where
-        go : (c : Bool) → nothingLeft h s ≡ c → r ≡ cond c (bestRun (h .pages) (sweptTable h s) n) (h .pages)
-        go true w = rw (here .table) at v
-        go false w = absurd (d (rw w at (here .returned)))
-
-    -- .. where the run around them is too short
-    pub short-swept : Audited h → 0 < n → h .pages ≤ bestRun (h .pages) (h .table) n → x .returned ≢ 0 →
-        leb n (runLength (h .pages) t (runStart t s)) ≡ false → PagesTurned n s h (h .pages) t b
-    short-swept F some none d v = record { swept = record { table = rw e (here .table); bits = rw e (here .bits) }; run = rw e (go (nothingLeft h s) refl) }
+    pub returned-swept : Audited h → 0 < n → h .pages ≤ bestRun (h .pages) (h .table) n → x .returned ≢ 0 → {r : ℕ} → r ≡ runAround (h .pages) t s n →
+        PagesTurned n s h r t b
+    returned-swept F some none d {r} v = record { swept = record { table = rw e (here .table); bits = rw e (here .bits) }; run = rw e (go (nothingLeft h s) refl) }
       where
         span : IsSpan (h .table) s
         span = as-facts (h .table) s true (is-true _ e) .0
 
-        go : (c : Bool) → nothingLeft h s ≡ c → h .pages ≡ cond c (bestRun (h .pages) (sweptTable h s) n) (h .pages)
-        go true w = sym (none-around F s span w n some none (rw (here .table) at v))
+        go : (c : Bool) → nothingLeft h s ≡ c → r ≡ cond c (bestRun (h .pages) (sweptTable h s) n) (h .pages)
+        go true w = (rw (here .table) at v) ∙ sym (best-around F s span w n some none)
         go false w = absurd (d (rw w at (here .returned)))
 
 pub any-steady : Steady anySpan

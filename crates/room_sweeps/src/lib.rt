@@ -73,10 +73,7 @@ fn sweep_any(p: usize, table: &mut [u32], bits: &mut [u64], n: usize, s: Page) -
     if swept.returned == 0 {
         return Page(p);
     }
-    if !page_runs::fits_around(p, table, s, n) {
-        return Page(p);
-    }
-    page_runs::best_run(p, table, n)
+    page_runs::run_around(p, table, s, n)
 }
 
 // Sweeps unswept spans, from the lowest start page until a run of n pages is free: the best run, or p

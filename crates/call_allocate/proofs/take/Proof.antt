@@ -1,4 +1,6 @@
 -- `call_allocate::take` meets its contract.
+use mathlib.Core.Path.{ap}
+use lib.ListN.{set}
 use denote.Ref.{now}
 use borrow.Author.Needs.{needs}
 use Rattle.call_allocate.proofs.take.Statement.{statement}
@@ -16,7 +18,12 @@ returns c t =
     let m = c .before .before .before in
     let z = zeroed m in
     let s = start z in
-    record { value = c .address .ensures; arena = z .zero-part .ensures; bits = m .mark-new .ensures (now (s .args .arena)) t; roots = rw (c .address .ensures) }
+    record {
+      value = c .address .ensures;
+      arena = z .zero-part .ensures;
+      bits = m .mark-new .ensures (now (s .args .arena)) t;
+      roots = ap (set (now (s .args .roots)) (s .args .slot)) (c .address .ensures);
+    }
 
 pub take-spec : {M : Type 1} → statement M
 take-spec =

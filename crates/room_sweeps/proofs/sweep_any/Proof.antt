@@ -1,8 +1,6 @@
--- `room_sweeps::sweep_any` meets its contract: no unswept span there, one that stays, one whose pages are returned and do
--- not fit, or do.
+-- `room_sweeps::sweep_any` meets its contract: no unswept span there, one that stays, or one whose pages are returned.
 use Prim.Native.Nat.{ℕ}
 use mathlib.Core.List.{List}
-use mathlib.Core.Path.{sym, _∙_}
 use native.Mathlib.Omega.{arith}
 use borrow.Author.Tests.{not-true, not-false}
 use denote.Ref.{now}
@@ -10,7 +8,7 @@ use borrow.Author.Needs.{needs}
 use Rattle.model.specs.Memory.{Heap, lent}
 use Rattle.model.specs.Allocate.{anySpan}
 use Rattle.model.specs.Lent.{PageTable}
-use Rattle.room_sweeps.proofs.Turns.{no-next, next-any, readable, swept-mapped, none-swept, stays-swept, short-swept, returned-swept}
+use Rattle.room_sweeps.proofs.Turns.{no-next, next-any, readable, swept-mapped, none-swept, stays-swept, returned-swept}
 use Rattle.room_sweeps.proofs.sweep_any.Statement.{statement}
 use Rattle.room_sweeps.proofs.sweep_any.Tie as tie
 
@@ -60,31 +58,14 @@ returns-2 c a o F =
     stays-swept (s .args .n) (s .args .s .0) h (next-any h (s .args .s .0) _ (d .unswept-at .ensures) z) (d .unswept-at .ensures .reads z .start) (w .sweep .ensures a o)
     (F .spans) (c .if2 .taken)
 
-fits-around-requires : tie.Need-fits-around-requires
-fits-around-requires c κs =
+run-around-requires : tie.Need-run-around-requires
+run-around-requires c κs =
     let f = c .before .before in
     (left f, omega (arith, start (looked (swept f) .before) .pre .1))
 
 returns-3 : tie.Need-returns-3
 returns-3 c a o F =
-    let f = c .before .before .before in
-    let w = swept (f .before) in
-    let e = looked w in
-    let d = e .before in
-    let s = start d in
-    let h = heap s a o in
-    let z = not-false _ (e .if1 .left) in
-    short-swept (s .args .n) (s .args .s .0) h (next-any h (s .args .s .0) _ (d .unswept-at .ensures) z) (d .unswept-at .ensures .reads z .start) (w .sweep .ensures a o)
-    F (s .pre .2) (s .pre .3) (f .if2 .left) (sym (c .before .fits-around .ensures) ∙ not-true _ (c .if3 .taken))
-
-best-run-requires : tie.Need-best-run-requires
-best-run-requires c κs =
-    let f = c .before .before .before .before .before in
-    (left f, omega (arith, start (looked (swept f) .before) .pre .2))
-
-returns-4 : tie.Need-returns-4
-returns-4 c a o F =
-    let f = c .before .before .before .before .before in
+    let f = c .before .before in
     let w = swept (f .before) in
     let e = looked w in
     let d = e .before in
@@ -92,10 +73,10 @@ returns-4 c a o F =
     let h = heap s a o in
     let z = not-false _ (e .if1 .left) in
     returned-swept (s .args .n) (s .args .s .0) h (next-any h (s .args .s .0) _ (d .unswept-at .ensures) z) (d .unswept-at .ensures .reads z .start) (w .sweep .ensures a o)
-    (f .if2 .left) (c .best-run .ensures)
+    F (s .pre .2) (s .pre .3) (f .if2 .left) (c .run-around .ensures)
 
 pub sweep-any-spec : {M : Type 1} → statement M
 sweep-any-spec =
     tie.close
-    (tie.spec (λ c κs. search needs) (λ c. search needs) returns sweep-requires (λ c. search needs) (λ c. search needs) returns-2 fits-around-requires
-    (λ c. search needs) (λ c. search needs) returns-3 best-run-requires (λ c. search needs) (λ c. search needs) returns-4)
+    (tie.spec (λ c κs. search needs) (λ c. search needs) returns sweep-requires (λ c. search needs) (λ c. search needs) returns-2 run-around-requires
+    (λ c. search needs) (λ c. search needs) returns-3)
