@@ -20,12 +20,12 @@ counted c = omega arith
 returns : tie.Need-returns
 returns c =
     let l = c .before in
-    rw (← l .before .run-start .ensures, ← counted l, le-leb _ _ (c .if1 .taken))
+    rw (← l .before .run-start .ensures, ← counted l, le-leb (l .before .before .before .args .n) (l .run-length .result) (c .if1 .taken))
 
 returns-2 : tie.Need-returns-2
 returns-2 c =
     let l = c .before in
-    rw (← l .before .run-start .ensures, ← counted l, lt-leb _ _ (c .if1 .left))
+    rw (← l .before .run-start .ensures, ← counted l, lt-leb (l .before .before .before .args .n) (l .run-length .result) (c .if1 .left))
 
 pub run-around-spec : {M : Type 1} → statement M
 run-around-spec = tie.close (tie.spec (λ c κs. search needs) run-length-requires returns returns-2)
