@@ -5,7 +5,8 @@
 ghost use mathlib.Core.Bool.{false};
 ghost use mathlib.Core.Path.{_≡_};
 ghost use Prim.Native.Nat.{_<_};
-ghost use Rattle.room_sweeps.specs.Needs.{LentAudited, NoElement, NoRun, KindTurn, PageTurn, SweepsKind, SweepsPages};
+ghost use Rattle.room_sweeps.specs.Needs.{LentAudited, NoElement, NoRun};
+ghost use Rattle.room_sweeps.specs.Needs.{KindTurn, PageTurn, SweepsKind, SweepsPages};
 use element_search::Free;
 use units::Page;
 use units::Word;
