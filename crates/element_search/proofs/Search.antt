@@ -1,11 +1,12 @@
 -- What a span that the audit has passed gives the search for a free element: its class and page count are in range, its elements lie within the
 -- bitmaps, and the bits that the search reads are the allocated bits of its elements. And what each way out of the search has found.
 use Prim.Native.Nat.{ℕ, _+_, _*_, _<_, _≤_}
-use mathlib.Core.Bool.{true, false, not}
+use mathlib.Core.Bool.{Bool, true, false, not}
 use mathlib.Core.List.{List}
-use mathlib.Core.Path.{_≡_, sym, _∙_, ap}
+use mathlib.Core.Path.{_≡_, refl, sym, _∙_, ap}
 use native.Mathlib.Omega.{arith}
-use borrow.Author.Tests.{lt-ltb, le-ltb, eq-eqb}
+use lib.Dec.{eqb}
+use borrow.Author.Tests.{lt-ltb, le-ltb, eq-eqb, eqb-true, eqb-false}
 use Rattle.model.specs.Bounded.{firstBelow}
 use Rattle.model.specs.Memory.{Heap, lent, maxPages, pageWords, firstWord}
 use Rattle.model.specs.Classes.{rows}
@@ -19,7 +20,7 @@ use Rattle.model.proofs.Bitmaps.{bit-in}
 use Rattle.model.proofs.Classes.{Fits}
 use Rattle.model.proofs.Spans.{fits, element-fits}
 use Rattle.bitmap.specs.Starts.{Starts, ElementRow}
-use Rattle.element_search.specs.Free.{FreeIn, FreeOf}
+use Rattle.element_search.specs.Free.{FreeIn, FreeBetween, FreeOf}
 use Rattle.element_search.specs.declared.Free.{Free}
 
 module _ {p : ℕ} {t b : List ℕ} {s : ℕ} (X : MappedSpan p t b s) where
@@ -75,14 +76,48 @@ pub absent : (h : Heap) (kind s : ℕ) (r : Free) → r .found ≡ false → has
 absent h kind s r e f = record { found = e ∙ sym f; word = λ t. clash (r .found) t e }
 
 -- page s is the lowest at which one does, or there is none
-pub lowest : (h : Heap) (kind s : ℕ) (r : Free) → s < h .pages → ((k : ℕ) → k < s → hasRoom h kind k ≡ false) → FreeIn h kind s r → r .found ≡ true → FreeOf h kind r
+lowest : (h : Heap) (kind s : ℕ) (r : Free) → s < h .pages → ((k : ℕ) → k < s → hasRoom h kind k ≡ false) → FreeIn h kind s r → r .found ≡ true → FreeOf h kind r
 unfolding spanWithRoom
 lowest h kind s r l f x t =
     let e : spanWithRoom h kind ≡ s = first-is (h .pages) (hasRoom h kind) s (record { within = omega arith; before = f; holds = λ _. sym (x .found) ∙ t }) in
     record { found = rw e (t ∙ sym (lt-ltb s (h .pages) l)); word = λ u. rw e (x .word u) }
 
-pub none : (h : Heap) (kind : ℕ) (r : Free) → r .found ≡ false → ((k : ℕ) → k < h .pages → hasRoom h kind k ≡ false) → FreeOf h kind r
+none : (h : Heap) (kind : ℕ) (r : Free) → r .found ≡ false → ((k : ℕ) → k < h .pages → hasRoom h kind k ≡ false) → FreeOf h kind r
 unfolding spanWithRoom
 none h kind r z f =
     let e : spanWithRoom h kind ≡ h .pages = first-is (h .pages) (hasRoom h kind) (h .pages) (record { within = omega arith; before = f; holds = λ q. absurd (omega arith) }) in
     record { found = rw e (z ∙ sym (le-ltb (h .pages) (h .pages) (omega arith))); word = λ t. clash (r .found) t z }
+
+-- a search from page `from` on: nothing is passed yet, one page more is, it ends at page s, or at page `to`
+pub none-yet : {from : ℕ} (P : ℕ → Type 0) → (k : ℕ) → from ≤ k → k < from → P k
+none-yet P k x y = absurd (omega arith)
+
+pub one-more : {from : ℕ} (P : ℕ → Type 0) (s : ℕ) → ((k : ℕ) → from ≤ k → k < s → P k) → P s → (k : ℕ) → from ≤ k → k < s + 1 → P k
+one-more P s f y k x l = go (eqb k s) refl
+  where
+    go : (b : Bool) → eqb k s ≡ b → P k
+    go true e = rw (eqb-true k s e) y
+    go false e = f k x (omega (arith, eqb-false k s e))
+
+pub found-at : (h : Heap) (kind from to s : ℕ) (r : Free) → from ≤ s → s < to → ((k : ℕ) → from ≤ k → k < s → hasRoom h kind k ≡ false) → FreeIn h kind s r →
+    r .found ≡ true → FreeBetween h kind from to r
+found-at h kind from to s r l m f x e =
+    record { found = λ _. record { page = s; low = l; high = m; before = f; here = x }; none = λ z. clash (r .found) e z }
+
+pub found-none : (h : Heap) (kind from to : ℕ) (r : Free) → r .found ≡ false → ((k : ℕ) → from ≤ k → k < to → hasRoom h kind k ≡ false) → FreeBetween h kind from to r
+found-none h kind from to r z f = record { found = λ e. clash (r .found) e z; none = λ _. f }
+
+-- of all pages, and of one
+pub of-all : (h : Heap) (kind : ℕ) (r : Free) → FreeBetween h kind 0 (h .pages) r → FreeOf h kind r
+of-all h kind r X = go (r .found) refl
+  where
+    go : (b : Bool) → r .found ≡ b → FreeOf h kind r
+    go true e = let L = X .found e in lowest h kind (L .page) r (L .high) (λ k l. L .before k (omega arith) l) (L .here) e
+    go false e = none h kind r e (λ k l. X .none e k (omega arith) l)
+
+pub of-one : (h : Heap) (kind s : ℕ) (r : Free) → FreeBetween h kind s (s + 1) r → FreeIn h kind s r
+of-one h kind s r X = go (r .found) refl
+  where
+    go : (b : Bool) → r .found ≡ b → FreeIn h kind s r
+    go true e = let L = X .found e in let z : L .page ≡ s = omega (arith, L .low, L .high) in rw z at (L .here)
+    go false e = absent h kind s r e (X .none e s (omega arith) (omega arith))

@@ -1,11 +1,11 @@
-// The search for a free element: the lowest of one span, if it is a swept one of a kind, and the lowest
-// of the lowest such span that has one. Both go by the page table and the bitmaps.
+// The search for a free element: the lowest of the lowest swept span of a kind that has one, of the
+// spans that start on some pages. It goes by the page table and the bitmaps.
 ghost use mathlib.Core.Bool.{false};
 ghost use mathlib.Core.Path.{_≡_};
-ghost use Prim.Native.Nat.{_<_};
+ghost use Prim.Native.Nat.{_<_, _≤_};
 ghost use Rattle.model.specs.Lent.{Mapped};
 ghost use Rattle.model.specs.Contracts.{ByTables};
-ghost use Rattle.element_search.specs.Free.{FreeIn, FreeOf};
+ghost use Rattle.element_search.specs.Free.{FreeIn, FreeBetween};
 use units::Page;
 use units::Word;
 
@@ -27,7 +27,7 @@ fn nothing() -> Free
 
 // The lowest free element of a swept span of the kind, if one starts at page s. It does not depend on
 // the arena and the roots.
-pub fn free_in(p: usize, table: &[u32], bits: &[u64], kind: usize, s: Page) -> Free
+fn free_in(p: usize, table: &[u32], bits: &[u64], kind: usize, s: Page) -> Free
     requires { ⌜ Mapped p (now table) (now bits) × (s .0 < p) ⌝ }
     ensures { λ r. ⌜ ByTables (λ h. FreeIn h kind (s .0) r) p table bits ⌝ }
 {
@@ -54,14 +54,22 @@ pub fn free_in(p: usize, table: &[u32], bits: &[u64], kind: usize, s: Page) -> F
     }
 }
 
-// The lowest free element of the lowest swept span of the kind that has one. It does not depend on
-// the arena and the roots.
-pub fn free_of(p: usize, table: &[u32], bits: &[u64], kind: usize) -> Free
-    requires { ⌜ Mapped p (now table) (now bits) ⌝ }
-    ensures { λ r. ⌜ ByTables (λ h. FreeOf h kind r) p table bits ⌝ }
+// The lowest free element of the lowest swept span of the kind that has one, of the spans that start
+// from page `from` on and before page `to`. It does not depend on the arena and the roots.
+pub fn free_between(
+    p: usize,
+    table: &[u32],
+    bits: &[u64],
+    kind: usize,
+    from: Page,
+    to: Page,
+) -> Free
+    requires { ⌜ Mapped p (now table) (now bits) × (to .0 ≤ p) ⌝ }
+    ensures { λ r. ⌜ ByTables (λ h. FreeBetween h kind (from .0) (to .0) r) p table bits ⌝ }
 {
-    let mut s = 0;
-    while s < p {
+    let end = to.0;
+    let mut s = from.0;
+    while s < end {
         let at = s;
         s += 1;
         let free = free_in(p, table, bits, kind, Page(at));

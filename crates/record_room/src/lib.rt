@@ -55,7 +55,7 @@ fn element_for(p: usize, table: &mut [u32], bits: &mut [u64], swept: bool, kind:
     requires { ⌜ LentAudited p (now table) (now bits) × Told swept (now table) ⌝ }
     ensures { λ r. ⌜ SweepsKind kind p table bits r ⌝ }
 {
-    let free = element_search::free_of(p, table, bits, kind);
+    let free = element_search::free_between(p, table, bits, kind, Page(0), Page(p));
     if free.found {
         return free;
     }

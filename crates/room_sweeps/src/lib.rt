@@ -38,7 +38,8 @@ fn sweep_of_kind(p: usize, table: &mut [u32], bits: &mut [u64], kind: usize, s: 
         return nothing();
     }
     span_sweep::sweep(p, table, bits, span);
-    element_search::free_in(p, table, bits, kind, s)
+    let after = s.0 + 1;
+    element_search::free_between(p, table, bits, kind, s, Page(after))
 }
 
 // Sweeps unswept spans of the kind, from the lowest start page until one has a free element: that
