@@ -4,8 +4,6 @@ ghost use Rattle.model.specs.Cycle.{sweep_step};
 ghost use Rattle.model.specs.Promises.{AuditedTables, DoesWithoutArena};
 
 use model::Answer;
-use page_entries::Kinds;
-use units::Page;
 
 // One sweep step: the lowest unswept span is swept; where there is none the cycle ends.
 pub fn sweep_step(p: usize, table: &mut [u32], bits: &mut [u64], roots: &mut [u64]) -> Answer
@@ -15,7 +13,7 @@ pub fn sweep_step(p: usize, table: &mut [u32], bits: &mut [u64], roots: &mut [u6
     if roots[units::PHASE] != units::SWEEP {
         return Answer::Refused(units::WRONG_PHASE);
     }
-    let first = page_entries::first_unswept(p, table, Kinds::Every, Page(0));
+    let first = page_entries::first_unswept(p, table);
     let found = first.found;
     if !found {
         roots[units::PHASE] = units::OFF;

@@ -15,7 +15,7 @@ pub struct Free {
 }
 
 // No element.
-pub fn nothing() -> Free
+fn nothing() -> Free
     ensures { result.found ≡ false }
 {
     Free {

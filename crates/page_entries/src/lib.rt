@@ -1,14 +1,14 @@
 // The entries of a span, written: a new span, a freed one, a changed kind. And the unswept flag of
-// a span's kind: set on every span, taken off one, and the first span that has it, of every kind or of
-// one. Crate page_table says what the numbers of an entry are, and reads them; this is a crate apart
+// a span's kind: set on every span, taken off one, the span at a page if it has it, and the first that
+// has it. Crate page_table says what the numbers of an entry are, and reads them; this is a crate apart
 // from it for the gate's time: each wrong program proves its whole crate again.
-ghost use Rattle.std.specs.Prelude.{◌≡◌, false, ◌≤◌};
+ghost use Rattle.std.specs.Prelude.{◌≡◌, false};
 ghost use Rattle.model.specs.Spans.{put_page, put_pages, span_page, free_page};
 ghost use Rattle.model.specs.Cycle.{unswept_page};
 ghost use Rattle.model.specs.Lent.{PageTable, HasEntry};
 ghost use Rattle.page_entries.specs.Needs.{HasEntries, NewEntries, SpanEntry, ReadEntry, Flaggable};
 ghost use Rattle.page_entries.specs.Kinds.{with_kind, made_swept};
-ghost use Rattle.page_entries.specs.Unswept.{wanted, first_of, UnsweptAt, FirstUnswept};
+ghost use Rattle.page_entries.specs.Unswept.{UnsweptAt, FirstUnswept};
 
 use page_table::{COUNT, KIND, Span};
 use units::{ENTRY_NUMBERS, Page, UNSWEPT_FLAG};
@@ -90,23 +90,6 @@ pub fn make_all_unswept(p: usize, table: &mut [u32])
     }
 }
 
-// The spans that a search is for: of every kind, or of one.
-#[derive(Drop)]
-pub enum Kinds {
-    Every,
-    One(usize),
-}
-
-// Whether a span of this kind is searched for.
-fn wants(kinds: Kinds, kind: usize) -> bool
-    ensures { result ≡ wanted kinds kind }
-{
-    match kinds {
-        Kinds::Every => true,
-        Kinds::One(one) => kind == one,
-    }
-}
-
 // An unswept span: whether there is one, and the span as it was read.
 #[derive(Drop)]
 pub struct Unswept {
@@ -132,35 +115,31 @@ fn nothing() -> Unswept
     }
 }
 
-// The unswept span of the kinds that starts at page s, if one does.
-fn unswept_at(table: &[u32], kinds: Kinds, s: Page) -> Unswept
+// The unswept span that starts at page s, if one does.
+pub fn unswept_at(table: &[u32], s: Page) -> Unswept
     requires { HasEntry table.now s.0 }
-    ensures { UnsweptAt kinds table.now s.0 result }
+    ensures { UnsweptAt table.now s.0 result }
 {
     if !page_table::starts_span(table, s) {
         return nothing();
     }
     let span = page_table::span_at(table, s);
-    if !wants(kinds, span.kind) {
-        return nothing();
-    }
     Unswept {
         found: span.unswept,
         span: span,
     }
 }
 
-// The first unswept span of the kinds, if there is one. The search begins at page `from`, below which
-// none starts.
-pub fn first_unswept(p: usize, table: &[u32], kinds: Kinds, from: Page) -> Unswept
-    requires { PageTable p table.now × (from.0 ≤ first_of kinds p table.now) }
-    ensures { FirstUnswept kinds p table.now result }
+// The first unswept span, if there is one.
+pub fn first_unswept(p: usize, table: &[u32]) -> Unswept
+    requires { PageTable p table.now }
+    ensures { FirstUnswept p table.now result }
 {
-    let mut s = from.0;
+    let mut s = 0;
     while s < p {
         let at = s;
         s += 1;
-        let span = unswept_at(table, kinds, Page(at));
+        let span = unswept_at(table, Page(at));
         if span.found {
             return span;
         }

@@ -1,25 +1,43 @@
 // Sweeps that make room for an allocation: unswept spans of a kind until one has a free element, and
-// unswept spans of any kind until a run of pages is long enough. Each loop goes from span to span and
-// over the page table once: a sweep makes room in its own span, or lengthens the run of free pages
-// around it, and nowhere else (crate keeps, proofs/Beside.antt, and proofs/Around.antt here).
-ghost use Rattle.std.specs.Prelude.{◌<◌};
-ghost use Rattle.room_sweeps.specs.Needs.{LentAudited, UnsweptRead, NoElement, NoRun};
-ghost use Rattle.room_sweeps.specs.Needs.{SweepsForElement, SweepsForRun, SweepsKind, SweepsPages};
+// unswept spans of any kind until a run of pages is long enough. Each loop goes over the page table
+// once: a sweep makes room in its own span, or lengthens the run of free pages around it, and nowhere
+// else (crate keeps, proofs/Beside.antt, and proofs/Around.antt here).
+ghost use Rattle.std.specs.Prelude.{false, ◌≡◌, ◌<◌};
+ghost use Rattle.room_sweeps.specs.Needs.{LentAudited, NoElement, NoRun};
+ghost use Rattle.room_sweeps.specs.Needs.{KindTurn, PageTurn, SweepsKind, SweepsPages};
 
 use element_search::Free;
-use page_entries::Kinds;
-use page_table::Span;
-use units::Page;
+use units::{Page, Word};
 
-// Sweeps an unswept span, where no swept span of the kind has room: the lowest free element of the
-// kind. The span alone can have one; if it is returned whole it has none.
-fn sweep_for_element(p: usize, table: &mut [u32], bits: &mut [u64], kind: usize, span: Span) -> Free
-    requires { LentAudited p table.old bits.old × UnsweptRead table.old span × NoElement kind p table.old bits.old }
-    ensures { SweepsForElement kind span.start.0 p table bits result }
+// No element.
+fn nothing() -> Free
+    ensures { result.found ≡ false }
 {
-    let after = span.start.0 + 1;
+    Free {
+        found: false,
+        word: Word(0),
+    }
+}
+
+// Sweeps the unswept span of the kind that starts at page s, if one does: its lowest free element. One
+// that is returned whole has none.
+fn sweep_of_kind(p: usize, table: &mut [u32], bits: &mut [u64], kind: usize, s: Page) -> Free
+    requires { LentAudited p table.old bits.old × (s.0 < p) }
+    ensures { KindTurn kind s.0 p table bits result }
+{
+    let next = page_entries::unswept_at(table, s);
+    let found = next.found;
+    if !found {
+        return nothing();
+    }
+    let span = next.span;
+    let of_kind = span.kind;
+    if of_kind != kind {
+        return nothing();
+    }
     span_sweep::sweep(p, table, bits, span);
-    element_search::free_between(p, table, bits, kind, span.start, Page(after))
+    let after = s.0 + 1;
+    element_search::free_between(p, table, bits, kind, s, Page(after))
 }
 
 // Sweeps unswept spans of the kind, from the lowest start page until one has a free element: that
@@ -28,29 +46,34 @@ pub fn sweep_kind(p: usize, table: &mut [u32], bits: &mut [u64], kind: usize) ->
     requires { LentAudited p table.old bits.old × NoElement kind p table.old bits.old }
     ensures { SweepsKind kind p table bits result }
 {
-    let mut next = page_entries::first_unswept(p, table, Kinds::One(kind), Page(0));
-    while next.found {
-        let free = sweep_for_element(p, table, bits, kind, next.span);
+    let mut s = 0;
+    while s < p {
+        let at = s;
+        s += 1;
+        let free = sweep_of_kind(p, table, bits, kind, Page(at));
         if free.found {
             return free;
         }
-        let after = next.span.start.0 + 1;
-        next = page_entries::first_unswept(p, table, Kinds::One(kind), Page(after));
     }
-    element_search::nothing()
+    nothing()
 }
 
-// Sweeps an unswept span, where no run of n pages is free: the best run, or p. If its pages are
-// returned, the run around them alone can have become long enough.
-fn sweep_for_run(p: usize, table: &mut [u32], bits: &mut [u64], n: usize, span: Span) -> Page
-    requires { LentAudited p table.old bits.old × UnsweptRead table.old span × (0 < n) × NoRun n p table.old }
-    ensures { SweepsForRun n span.start.0 p table bits result }
+// Sweeps the unswept span that starts at page s, if one does, where no run of n pages is free: the best
+// run, or p. If its pages are returned, the run around them alone can have become long enough.
+fn sweep_any(p: usize, table: &mut [u32], bits: &mut [u64], n: usize, s: Page) -> Page
+    requires { LentAudited p table.old bits.old × (s.0 < p) × (0 < n) × NoRun n p table.old }
+    ensures { PageTurn n s.0 p table bits result }
 {
-    let swept = span_sweep::sweep(p, table, bits, span);
+    let next = page_entries::unswept_at(table, s);
+    let found = next.found;
+    if !found {
+        return Page(p);
+    }
+    let swept = span_sweep::sweep(p, table, bits, next.span);
     if swept.returned == 0 {
         return Page(p);
     }
-    page_runs::run_around(p, table, span.start, n)
+    page_runs::run_around(p, table, s, n)
 }
 
 // Sweeps unswept spans, from the lowest start page until a run of n pages is free: the best run, or p
@@ -59,14 +82,14 @@ pub fn sweep_pages(p: usize, table: &mut [u32], bits: &mut [u64], n: usize) -> P
     requires { LentAudited p table.old bits.old × NoRun n p table.old × (0 < n) }
     ensures { SweepsPages n p table bits result }
 {
-    let mut next = page_entries::first_unswept(p, table, Kinds::Every, Page(0));
-    while next.found {
-        let page = sweep_for_run(p, table, bits, n, next.span);
+    let mut s = 0;
+    while s < p {
+        let at = s;
+        s += 1;
+        let page = sweep_any(p, table, bits, n, Page(at));
         if page.0 < p {
             return page;
         }
-        let after = next.span.start.0 + 1;
-        next = page_entries::first_unswept(p, table, Kinds::Every, Page(after));
     }
     Page(p)
 }

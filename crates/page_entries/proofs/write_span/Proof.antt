@@ -12,11 +12,11 @@ use Rattle.page_entries.proofs.write_span.Statement.{statement}
 use Rattle.page_entries.proofs.write_span.Tie as tie
 
 abbrev invariant-loop : tie.invariant-loop
-invariant-loop table₀ n kind first owner next-count₀ next-kind₀ k₀ table next-count next-kind k =
-    (k ≤ n) × Written first k (span_page first n kind) table₀ table × (next-count ≡ cond (eqb (first + k) first) n 0) × (next-kind ≡ cond (eqb (first + k) first) kind 0)
+invariant-loop table₀ n kind first owner next-count₀ next-kind₀ k₀ table next-count next_kind k =
+    (k ≤ n) × Written first k (span_page first n kind) table₀ table × (next-count ≡ cond (eqb (first + k) first) n 0) × (next_kind ≡ cond (eqb (first + k) first) kind 0)
 
 abbrev decreases-loop : tie.decreases-loop
-decreases-loop table₀ n kind first owner next-count₀ next-kind₀ k₀ table next-count next-kind k = n - k
+decreases-loop table₀ n kind first owner next-count₀ next-kind₀ k₀ table next-count next_kind k = n - k
 
 -- places: the function's entry, from a turn of the loop, and that turn, from where its entry is written
 abbrev start : tie.At-loop invariant-loop decreases-loop → tie.Start invariant-loop decreases-loop
