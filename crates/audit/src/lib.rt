@@ -2,6 +2,8 @@
 // is passed before the bits, and the bits before what they lead to, so that each part may rely on
 // the one before it. So the audit goes over the page table three times: for itself, for the bits and
 // for the words of the arena.
+#![tactic(auto)]
+
 ghost use Rattle.std.specs.Prelude.{◌↔◌, ◌≡◌, T};
 ghost use Rattle.model.specs.Checks.{buffers_refusal};
 ghost use Rattle.model.specs.Audit.{audit};

@@ -2,6 +2,8 @@
 // span or on one free page; its bits are one word in each of the four parts, and whole words are
 // tested (crate audit_blocks), so a block without bits is passed over whole and no bit is visited. The
 // page table has passed the audit; it is passed once more here, from span to span.
+#![tactic(auto)]
+
 ghost use Rattle.std.specs.Prelude.{◌≡◌, ◌&&◌, cond, ◌↔◌, ℕ, ◌+◌, ◌-◌, ◌*◌, ◌^◌, ◌<◌, T};
 ghost use Rattle.model.specs.Bounded.{◌==◌, ◌<?◌, ◌≤?◌, all_below};
 ghost use Rattle.model.specs.Memory.{mark, page_words, page_blocks, word_bits, first_word};

@@ -2,6 +2,8 @@
 // one span. Every rule of the audit about bits is a test of whole words here, so that a block is
 // tested without going through its bits. A crate apart from audit_bits for the gate's time: each wrong
 // program proves its whole crate again.
+#![tactic(auto)]
+
 ghost use Rattle.std.specs.Prelude.{◌≡◌};
 ghost use Rattle.model.specs.Memory.{word_bits};
 ghost use Rattle.model.specs.Bounded.{all_below};

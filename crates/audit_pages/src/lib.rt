@@ -2,6 +2,8 @@
 // table. The page table is passed once, from span to span: where a span has ended, the next page is
 // free or starts a span, and nothing else may stand there. For the passes that come after this one,
 // over the bits and over the words, proofs/Stretches says how they go from span to span.
+#![tactic(auto)]
+
 ghost use Rattle.std.specs.Prelude.{◌≡◌, ◌↔◌, ◌≢◌, ℕ, ◌+◌, ◌/◌, ◌%◌, ◌<◌, ◌≤◌, T, false};
 ghost use Rattle.model.specs.Memory.{max_pages, unswept_flag, stack_count, sweep};
 ghost use Rattle.model.specs.Spans.{page_count};

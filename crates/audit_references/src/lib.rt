@@ -4,6 +4,8 @@
 // the sweep phase no span is unswept, and a reference is tested by one bit, without the page table.
 // The page table has passed the audit. A crate apart from audit_words for the gate's time too: each
 // wrong program proves its whole crate again.
+#![tactic(auto)]
+
 ghost use Rattle.std.specs.Prelude.{◌≡◌, ◌↔◌, ◌*◌, ◌<◌, ◌≤◌, T};
 ghost use Rattle.model.specs.Memory.{max_pages, page_words, root_words, first_global};
 ghost use Rattle.model.specs.Facts.{Reference, States, kept_at};

@@ -3,6 +3,8 @@
 // found by these bits alone, a bitmap word at a time; in an unswept one they are found by the elements
 // that are marked. Spans without pointers are passed over. The page table has passed the audit; it is
 // passed once more here, from span to span.
+#![tactic(auto)]
+
 ghost use Rattle.std.specs.Prelude.{◌↔◌, ◌*◌, ◌<◌, ◌≤◌, T};
 ghost use Rattle.model.specs.Memory.{page_blocks};
 ghost use Rattle.model.specs.Facts.{IsSpan};

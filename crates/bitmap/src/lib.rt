@@ -2,6 +2,8 @@
 // tested, set and cleared, and two searches go through the list by whole words. A word is masked to
 // the bits that are asked for where it may have others, and its trailing zeros are then the number of
 // the lowest that is set. Callers add the offset of the part of the bitmaps that they mean.
+#![tactic(auto)]
+
 ghost use Rattle.std.specs.Prelude.{◌≡◌, true, false, not, ◌+◌, ◌-◌, ◌*◌, ◌/◌, ◌%◌, ◌<◌, ◌≤◌, min, length};
 ghost use Rattle.model.specs.Bounded.{first_below};
 ghost use Rattle.model.specs.Memory.{word_bits};

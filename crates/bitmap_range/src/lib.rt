@@ -1,6 +1,8 @@
 // Ranges of bits of the bitmaps, a 64-bit word at a time: turned on or off, counted, and moved from
 // one part of the bitmaps to another. Bits are numbered from the lowest bit of the first word on. A
 // crate apart from bitmap for the gate's time: each wrong program proves its whole crate again.
+#![tactic(auto)]
+
 ghost use Rattle.std.specs.Prelude.{◌≡◌, true, false, cond, ◌+◌, ◌-◌, ◌*◌, ◌^◌, ◌<◌, ◌≤◌, length, get_or};
 ghost use Rattle.model.specs.Bounded.{write_run, count_below};
 ghost use Rattle.model.specs.Memory.{word_bits, put_words};

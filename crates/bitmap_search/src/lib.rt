@@ -2,6 +2,8 @@
 // end of a run of set bits. As in crate bitmap, a word is masked to the bits that are asked for, and
 // its trailing zeros are the number of the lowest that is set. A crate apart from bitmap for the gate's
 // time: each wrong program proves its whole crate again.
+#![tactic(auto)]
+
 ghost use Rattle.std.specs.Prelude.{◌≡◌, not, ◌+◌, ◌-◌, ◌*◌, ◌≤◌, length};
 ghost use Rattle.model.specs.Bounded.{first_below};
 ghost use Rattle.model.specs.Memory.{word_bits};

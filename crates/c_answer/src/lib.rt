@@ -1,5 +1,7 @@
 // What a call for C leaves of an answer. Enums do not cross to C, so the answer's numbers are written
 // out, as `numbers` of the model lists them: the refusal is the result, the values go to an array.
+#![tactic(auto)]
+
 ghost use Rattle.std.specs.Prelude.{◌≡◌, set};
 ghost use Rattle.c_answer.specs.Exported.{Written};
 

@@ -1,5 +1,7 @@
 // The calls for C and Rust of a cycle: the entry check, then the audited call, and its answer written
 // out (crate c_setup says what all calls for C have in common).
+#![tactic(auto)]
+
 ghost use Rattle.model.specs.declared.Call.TheVariants.{Start, ScanStack, ScanGlobals, MarkStep, Finish, SweepStep};
 ghost use Rattle.c_answer.specs.Exported.{Exports};
 

@@ -1,6 +1,8 @@
 // The calls for C and Rust on records, and the store to a global, which has the barrier too: the entry
 // check, then the audited call, and its answer written out (crate c_setup says what all calls for C have
 // in common).
+#![tactic(auto)]
+
 ghost use Rattle.model.specs.declared.Call.TheVariants.{Allocate, Load, Store, Put, Get, StoreGlobal};
 ghost use Rattle.c_answer.specs.Exported.{Exports};
 

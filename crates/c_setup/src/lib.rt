@@ -4,6 +4,8 @@
 // buffer that a call never changes is lent as `&`, `const` in the header. The calls for C are four
 // crates, whose objects go into one archive: one crate of all would be proved again for each of its
 // wrong programs, at three times the cost.
+#![tactic(auto)]
+
 ghost use Rattle.model.specs.declared.Call.TheVariants.{Setup, Audit};
 ghost use Rattle.c_answer.specs.Exported.{Exports};
 

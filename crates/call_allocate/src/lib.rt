@@ -1,5 +1,7 @@
 // Allocating a record: the call, and the element that it takes. Where the record goes is found by
 // crate record_room; here each buffer is changed by a function of its own.
+#![tactic(auto)]
+
 ghost use Rattle.std.specs.Prelude.{true, ◌≡◌};
 ghost use Rattle.model.specs.Memory.{page_of};
 ghost use Rattle.model.specs.Allocate.{new_bits, allocate};

@@ -1,6 +1,8 @@
 // The end of marking: the mark step and finish. They are taken after the audit, of which each requires
 // what it is lent the buffers for. The lowest gray record and the end of a record's pointer words are
 // found a bitmap word at a time.
+#![tactic(auto)]
+
 ghost use Rattle.std.specs.Prelude.{◌≡◌, ◌+◌, eqb, get_or};
 ghost use Rattle.model.specs.Bounded.{some_below};
 ghost use Rattle.model.specs.Memory.{first_state, stack_count, gray_state};

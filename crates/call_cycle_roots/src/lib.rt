@@ -1,6 +1,8 @@
 // The roots' part of a cycle: start, which makes every open stack and the globals gray, and their
 // scans, which shade what the slots name. They are taken after the audit, of which each requires what
 // it is lent the buffers for.
+#![tactic(auto)]
+
 ghost use Rattle.std.specs.Prelude.{◌≡◌, cond, eqb, get_or};
 ghost use Rattle.model.specs.Memory.{put_words, first_state, stack_count, closed, gray_state, mark};
 ghost use Rattle.model.specs.Answers.{◌orElse◌};

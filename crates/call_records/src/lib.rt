@@ -2,6 +2,8 @@
 // got; and a slot is stored to a global, which has the barrier too. The field is found once, by crate
 // record_fields: a pointer word or a number, with where it stands, or the call's refusal. They are taken
 // after the audit.
+#![tactic(auto)]
+
 ghost use Rattle.model.specs.Records.{load, store, put, get, store_global};
 ghost use Rattle.model.specs.Promises.{AuditedHeap, AuditedTables, Does, DoesWithoutArena};
 

@@ -1,5 +1,7 @@
 // Setup, the one call that does not ask the audit: whatever the buffers hold becomes an empty heap.
 // The arena is left alone, so it is not lent.
+#![tactic(auto)]
+
 ghost use Rattle.model.specs.Lent.{Roots};
 ghost use Rattle.call_setup.specs.SetUp.{SetsUp};
 

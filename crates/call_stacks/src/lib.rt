@@ -2,6 +2,8 @@
 // a slot, loading a global. Each asks the check of crate root_checks that gives its refusal, 0 where
 // there is none, and then does its work. They are taken after the audit, of which they need the
 // roots' length.
+#![tactic(auto)]
+
 ghost use Rattle.std.specs.Prelude.{◌<◌};
 ghost use Rattle.model.specs.Memory.{stack_count};
 ghost use Rattle.model.specs.Records.{emptied, open_stack, close_stack, copy, clear, load_global};

@@ -1,5 +1,7 @@
 // The audited call that is asked for: each of the nineteen by its own function, which is lent the
 // buffers that it needs. The entry check has been made before.
+#![tactic(auto)]
+
 ghost use Rattle.model.specs.Calls.{does};
 ghost use Rattle.model.specs.Promises.{Does, Entered};
 

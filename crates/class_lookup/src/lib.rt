@@ -1,6 +1,8 @@
 // The class of a size, looked up in the runtime's two tables: for sizes up to 1,016 one entry for each
 // 8 bytes, and for the rest one for each 128 bytes above 1,024. Each table is read by one function. The
 // compiler builds it on the stack in each call of that function, so an entry is a byte.
+#![tactic(auto)]
+
 ghost use Rattle.std.specs.Prelude.{◌≡◌, ◌<◌};
 ghost use Rattle.model.specs.Classes.{class_of};
 ghost use Rattle.class_lookup.specs.Tables.{fine_entries, fine_size, coarse_entries, coarse_size};

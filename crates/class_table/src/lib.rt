@@ -2,6 +2,8 @@
 // model's specs/Classes.antt defines them. The compiler builds the table on the stack in each call that
 // reads it, so its rows are small. A crate apart from classes for the gate's time: each wrong program
 // proves its whole crate again, and a constant array of structs is dear.
+#![tactic(auto)]
+
 ghost use Rattle.std.specs.Prelude.{◌≡◌, ◌/◌, ◌≤◌};
 ghost use Rattle.model.specs.Memory.{word_bytes};
 ghost use Rattle.model.specs.Classes.{rows, element_bytes, class_pages};

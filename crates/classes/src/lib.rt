@@ -1,6 +1,8 @@
 // Size classes: the shape of a record by its size and its pointer words, and what a span of a class
 // holds, as the model's specs/Classes.antt defines them. Crate class_lookup has the class of a size,
 // class_table the classes' rows.
+#![tactic(auto)]
+
 ghost use Rattle.std.specs.Prelude.{cond, ◌≡◌, ◌+◌, ◌*◌, ◌^◌, ◌≤◌, ◌<◌, eqb};
 ghost use Rattle.model.specs.Lent.{StartsMask};
 ghost use Rattle.model.specs.Classes.{rows, class_pages, element_words_of, elements_of};

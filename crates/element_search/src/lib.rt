@@ -1,5 +1,7 @@
 // The search for a free element: the lowest of the lowest swept span of a kind that has one, of the
 // spans that start on some pages. It goes by the page table and the bitmaps.
+#![tactic(auto)]
+
 ghost use Rattle.std.specs.Prelude.{false, ◌≡◌, ◌<◌, ◌≤◌};
 ghost use Rattle.model.specs.Lent.{Mapped};
 ghost use Rattle.model.specs.Promises.{ByTables};

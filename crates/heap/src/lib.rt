@@ -1,6 +1,8 @@
 // The heap: every call on it, by one function. It takes P, the four lent buffers and what is asked,
 // whose numbers are plain 64-bit numbers, and refuses whatever is out of range. The contract says what
 // the call answers and leaves for every input, by the model's `run`.
+#![tactic(auto)]
+
 ghost use Rattle.std.specs.Prelude.{◌≡◌};
 ghost use Rattle.model.specs.Calls.{asks_audit, entry_refusal};
 ghost use Rattle.model.specs.Promises.{found, Makes};

@@ -1,6 +1,7 @@
 // The types that the calls share, and the row of the class table. What they mean is in specs/, each
 // definition under the sentence of the scope document that it renders; the laws of those definitions
 // are in proofs/.
+#![tactic(auto)]
 
 // What a call answers. `numbers` of specs/Answers.antt lists the number and the values of each case.
 #[derive(Drop)]

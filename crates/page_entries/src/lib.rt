@@ -2,6 +2,8 @@
 // a span's kind: set on every span, taken off one, the span at a page if it has it, and the first that
 // has it. Crate page_table says what the numbers of an entry are, and reads them; this is a crate apart
 // from it for the gate's time: each wrong program proves its whole crate again.
+#![tactic(auto)]
+
 ghost use Rattle.std.specs.Prelude.{◌≡◌, false};
 ghost use Rattle.model.specs.Spans.{put_page, put_pages, span_page, free_page};
 ghost use Rattle.model.specs.Cycle.{unswept_page};

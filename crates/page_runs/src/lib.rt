@@ -2,6 +2,8 @@
 // model's specs/Allocate.antt defines them; and the run around a page, if it is long enough, as
 // specs/Around.antt defines it. Crate page_table reads the entries of spans; this is a crate apart from
 // it for the gate's time: each wrong program proves its whole crate again.
+#![tactic(auto)]
+
 ghost use Rattle.std.specs.Prelude.{◌≡◌, ◌*◌, ◌<◌, ◌≤◌, length};
 ghost use Rattle.model.specs.Memory.{entry_numbers};
 ghost use Rattle.model.specs.Allocate.{run_length, best_run};

@@ -2,6 +2,8 @@
 // the page's span, the span's page count and its kind. The numbers of an entry, whether a span starts
 // at a page, and a span by its start page and by a word of it. Crate page_entries writes the table, and
 // crate page_runs finds room among its free pages.
+#![tactic(auto)]
+
 ghost use Rattle.std.specs.Prelude.{◌≡◌, ◌-◌, ◌<◌, length, get_or};
 ghost use Rattle.model.specs.Spans.{owner, page_count, kind_entry, starts_span, span_of};
 ghost use Rattle.model.specs.Lent.{HasEntry, WordEntries};

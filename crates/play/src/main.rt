@@ -1,5 +1,7 @@
 // Plays a trace: standard input in blocks, the work of each line by the library `trace_line`, standard
 // output in blocks. Memory is fixed: a line that is too long ends the run as soon as that shows.
+#![tactic(auto)]
+
 ghost use Rattle.std.specs.Prelude.{◌≡◌, ◌+◌, ◌≤◌, length};
 ghost use Rattle.trace_read.specs.Lines.{longest_line};
 ghost use Rattle.trace_split.specs.Split.{Short};

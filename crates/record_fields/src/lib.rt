@@ -2,6 +2,8 @@
 // or why a call on it is refused. In audited buffers the pointer words of a record are a run from its
 // first word on, so that a field is a pointer word exactly if it lies in the element and its pointer
 // bit is on: nothing is counted.
+#![tactic(auto)]
+
 ghost use Rattle.std.specs.Prelude.{◌≡◌, eqb};
 ghost use Rattle.model.specs.Memory.{nil};
 ghost use Rattle.model.specs.Answers.{nil_slot, ◌given◌};

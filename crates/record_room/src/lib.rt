@@ -1,5 +1,7 @@
 // Where a record goes: the refusals of an allocation, and the search for an element or for pages, with
 // the sweeps that make room. The arena and the roots are left alone.
+#![tactic(auto)]
+
 ghost use Rattle.std.specs.Prelude.{◌≡◌, ◌<◌};
 ghost use Rattle.model.specs.Checks.{size_refusal};
 ghost use Rattle.model.specs.Promises.{AuditedTables};

@@ -2,6 +2,8 @@
 // unswept spans of any kind until a run of pages is long enough. Each loop goes over the page table
 // once: a sweep makes room in its own span, or lengthens the run of free pages around it, and nowhere
 // else (crate keeps, proofs/Beside.antt, and proofs/Around.antt here).
+#![tactic(auto)]
+
 ghost use Rattle.std.specs.Prelude.{false, ◌≡◌, ◌<◌};
 ghost use Rattle.room_sweeps.specs.Needs.{LentAudited, NoElement, NoRun};
 ghost use Rattle.room_sweeps.specs.Needs.{KindTurn, PageTurn, SweepsKind, SweepsPages};

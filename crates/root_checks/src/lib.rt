@@ -2,6 +2,8 @@
 // 0 where there is none: of a call for one phase, on an open stack, on a closed one, on one slot or two
 // of an open stack, on a slot and a global; of a slot's number alone. Beside them, where a slot stands.
 // They are taken after the audit, of which they need the roots' length.
+#![tactic(auto)]
+
 ghost use Rattle.std.specs.Prelude.{◌≡◌, ◌<◌};
 ghost use Rattle.model.specs.Memory.{stack_count, slot_count, slot_at};
 ghost use Rattle.model.specs.Checks.{phase_refusal, open_refusal, closed_refusal, slot_number_refusal};

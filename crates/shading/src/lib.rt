@@ -1,6 +1,8 @@
 // Shading: a white record is marked, and made gray where its span is scan. One value, the barrier's
 // two, and the values of a lent slice, as the scans and the mark step shade them. Only the bitmaps
 // change; each function that counts says how many mark bits it turned on.
+#![tactic(auto)]
+
 ghost use Rattle.model.specs.Shading.{barrier};
 ghost use Rattle.shading.specs.Needs.{Shadable, LentStore, LentSlice, Shades, ShadesSlice, LeavesBits};
 

@@ -2,6 +2,8 @@
 // sweeps for room: the pointer bits of what is freed are cleared, the bits are swept, and the span's
 // entry becomes swept or its pages free. The span is read before and handed in; neither the arena nor
 // the roots are needed.
+#![tactic(auto)]
+
 ghost use Rattle.span_sweep.specs.Needs.{SpanRead, SweepsLentSpan, LentSpan, ClearsFreed};
 
 use page_table::Span;

@@ -1,5 +1,7 @@
 // The work of one line of a trace. The state between lines is P, the four buffers and the line
 // number; a line's bytes come in, its answer's bytes go out into a lent buffer.
+#![tactic(auto)]
+
 ghost use Rattle.std.specs.Prelude.{◌≡◌, ◌+◌, ◌≤◌, length};
 ghost use Rattle.model.specs.Answers.{accepted};
 ghost use Rattle.trace_read.specs.Lines.{read_line};

@@ -1,5 +1,7 @@
 // A line of a trace, read: one letter, then numbers, one space before each. `read` takes the bytes
 // of a line without its line feed and tells the call that it asks for, or that it does not read.
+#![tactic(auto)]
+
 ghost use Rattle.std.specs.Prelude.{◌≡◌, ◌≤◌, ◌<◌, length, drop};
 ghost use Rattle.trace_read.specs.Lines.{digit_of, digits, numbers_of, line_of, when, read_line, Reads};
 

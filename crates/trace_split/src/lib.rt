@@ -1,6 +1,8 @@
 // Input comes in blocks and is played in lines. The line under way stands in a lent buffer of 80
 // bytes; a block is taken up to its next line feed, up to its end, or up to the byte for which the
 // line has no room.
+#![tactic(auto)]
+
 ghost use Rattle.trace_split.specs.Split.{UnderWay, TakesBytes};
 
 use trace_read::LONGEST;

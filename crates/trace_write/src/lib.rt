@@ -1,5 +1,7 @@
 // What the trace program writes: the bytes of an answer, or of a line that does not read. Each
 // function writes into a lent buffer from a place on and answers the place after the last byte.
+#![tactic(auto)]
+
 ghost use Rattle.std.specs.Prelude.{◌+◌, ◌≤◌, ◌<◌, [], ◌∷◌, length};
 ghost use Rattle.trace_write.specs.Text.{decimal, spaced, answer_text, bad_text, longest_answer, Wrote};
 

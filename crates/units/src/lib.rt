@@ -3,6 +3,8 @@
 // the model has them in specs/Memory.antt and the refusals in specs/Answers.antt. What counts or
 // indexes is a usize; what is compared with the words of a buffer or with a size in bytes is a u64,
 // with the numbers of the page table a u32.
+#![tactic(auto)]
+
 ghost use Rattle.std.specs.Prelude.{◌≡◌, ◌*◌, ◌≤◌, eqb};
 ghost use Rattle.model.specs.Memory.{max_pages, page_words, page_blocks, nil, address_of, word_of, page_of, first_word};
 

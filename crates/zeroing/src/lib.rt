@@ -1,5 +1,7 @@
 // Words that become 0: a whole slice of them, or of numbers of the page table, and a part of a slice,
 // as an element of the arena or the slots of a stack.
+#![tactic(auto)]
+
 ghost use Rattle.std.specs.Prelude.{◌≡◌, ◌+◌, ◌≤◌, length, replicate};
 ghost use Rattle.model.specs.Memory.{put_words};
 
