@@ -22,7 +22,7 @@ use units::{
 };
 
 // Whether marks, gray bits and pointers may stand in a span.
-#[derive(Drop)]
+#[derive(Clone, Copy)]
 struct Allowed {
     marks: bool,
     grays: bool,

@@ -12,7 +12,7 @@ ghost use Rattle.model.specs.Classes.{rows, element_bytes, class_pages};
 pub const ROWS: usize = 66;
 
 // The words of a class's element, and the pages of its span.
-#[derive(Drop)]
+#[derive(Clone, Copy)]
 pub struct Row(pub u16, pub u16);
 
 // Row k is that of class k + 1; class 0 has none. Beside it its bytes, as the model has them.

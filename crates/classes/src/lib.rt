@@ -17,7 +17,7 @@ pub const MAX_SIZE: u64 = 1048576;
 
 // What a record's size and its number of pointer words decide, looked up once: the kind of its span,
 // the pages of a new span for it, and the words of its element.
-#[derive(Drop)]
+#[derive(Clone, Copy)]
 pub struct Shape {
     pub kind: u32,
     pub pages: usize,
@@ -25,7 +25,7 @@ pub struct Shape {
 }
 
 // The elements of a span: the words of one, and how many there are.
-#[derive(Drop)]
+#[derive(Clone, Copy)]
 pub struct Layout {
     pub words: usize,
     pub count: usize,

@@ -10,7 +10,7 @@ ghost use Rattle.element_search.specs.Free.{FreeIn, FreeBetween};
 use units::{Page, Word};
 
 // A free element: whether there is one, and its first word.
-#[derive(Drop)]
+#[derive(Clone, Copy)]
 pub struct Free {
     pub found: bool,
     pub word: Word,

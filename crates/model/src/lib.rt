@@ -4,7 +4,7 @@
 #![tactic(auto)]
 
 // What a call answers. `numbers` of specs/Answers.antt lists the number and the values of each case.
-#[derive(Drop)]
+#[derive(Clone, Copy)]
 pub enum Answer {
     // A refusal, by its number.
     Refused(u64),
@@ -18,7 +18,7 @@ pub enum Answer {
 
 // What is asked of a heap, with the call's numbers in the order of the trace line. What each call does
 // is `does` of specs/Calls.antt.
-#[derive(Drop)]
+#[derive(Clone, Copy)]
 pub enum Call {
     Setup,
     Audit,
@@ -42,7 +42,7 @@ pub enum Call {
 }
 
 // One row of the size class table: the bytes of an element and of a span.
-#[derive(Drop)]
+#[derive(Clone, Copy)]
 pub struct ClassRow {
     pub element: u64,
     pub span: u64,

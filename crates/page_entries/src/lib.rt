@@ -93,7 +93,7 @@ pub fn make_all_unswept(p: usize, table: &mut [u32])
 }
 
 // An unswept span: whether there is one, and the span as it was read.
-#[derive(Drop)]
+#[derive(Clone, Copy)]
 pub struct Unswept {
     pub found: bool,
     pub span: Span,

@@ -77,7 +77,7 @@ fn span_of_page(table: &[u32], g: Page) -> Page
 
 // A span as the entry of its first page describes it, read once and handed on. `flagged` is the kind
 // as it stands there, with the unswept flag, and `kind` the kind without it.
-#[derive(Drop)]
+#[derive(Clone, Copy)]
 pub struct Span {
     pub start: Page,
     pub pages: usize,

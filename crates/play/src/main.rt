@@ -26,7 +26,7 @@ const BITMAP_WORDS: usize = units::BITMAP_WORDS * PAGES;
 
 // How far the run is: P (0 before the first line), the lines played, the bytes of the line under
 // way, the bytes of output that wait, and whether the run goes on.
-#[derive(Drop)]
+#[derive(Clone, Copy)]
 pub struct Progress {
     pub pages: u64,
     pub lines: u64,

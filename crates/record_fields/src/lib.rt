@@ -15,7 +15,7 @@ ghost use Rattle.record_fields.specs.Fields.{FieldOf, Finds};
 use units::{Address, Word};
 
 // A word of a record: a pointer word or a number, and where it stands; or the refusal of a call on it.
-#[derive(Drop)]
+#[derive(Clone, Copy)]
 pub enum Field {
     Pointer(Word),
     Number(Word),

@@ -15,7 +15,7 @@ use units::{Page, Word};
 
 // Where a record goes: the refusal, or 0 and the record's first word; `fresh` says that its span is
 // still to be made. And the record's shape.
-#[derive(Drop)]
+#[derive(Clone, Copy)]
 pub struct RecordPlace {
     pub refusal: u64,
     pub word: Word,

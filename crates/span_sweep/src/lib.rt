@@ -35,7 +35,7 @@ fn clear_freed(p: usize, bits: &mut [u64], span: Span)
 
 // What a sweep did: the elements that it freed, and the pages that it returned, all of the span's or
 // none.
-#[derive(Drop)]
+#[derive(Clone, Copy)]
 pub struct SpanSwept {
     pub freed: u64,
     pub returned: u64,

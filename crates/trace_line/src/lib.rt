@@ -12,7 +12,7 @@ use model::{Answer, Call};
 use trace_read::Line;
 
 // What the work of a line leaves: the place after what it wrote, and whether the run goes on.
-#[derive(Drop)]
+#[derive(Clone, Copy)]
 pub struct LineResult {
     pub at: usize,
     pub more: bool,

@@ -8,7 +8,7 @@ ghost use Rattle.trace_read.specs.Lines.{digit_of, digits, numbers_of, line_of, 
 use model::Call;
 
 // What a line reads as: `H` with its number of pages, or a call on the heap.
-#[derive(Drop)]
+#[derive(Clone, Copy)]
 pub enum Line {
     Bad,
     Setup(u64),
@@ -17,11 +17,11 @@ pub enum Line {
 
 // The numbers of a line: how many there are, and the numbers, 0 past the last. Where the line does
 // not read, or has more numbers than any letter takes, the count is TOO_MANY.
-#[derive(Drop)]
+#[derive(Clone, Copy)]
 pub struct Numbers(pub u64, pub u64, pub u64, pub u64, pub u64);
 
 // One number of a line: what it comes to, and the place after its last digit.
-#[derive(Drop)]
+#[derive(Clone, Copy)]
 pub enum Number {
     Bad,
     Read(u64, usize),

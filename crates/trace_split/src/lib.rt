@@ -11,7 +11,7 @@ const LINE_FEED: u8 = 10;
 
 // What a block gives: a line of so many bytes, with the place in the block after its line feed; so
 // many bytes of a line that is still under way; or a line that is too long.
-#[derive(Drop)]
+#[derive(Clone, Copy)]
 pub enum Taken {
     Line(usize, usize),
     Part(usize),

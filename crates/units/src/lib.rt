@@ -97,15 +97,15 @@ pub const NO_ROOM: u64 = 9;
 pub const UNFINISHED: u64 = 10;
 
 // The address of an arena word, or any number that stands where one may.
-#[derive(Drop)]
+#[derive(Clone, Copy)]
 pub struct Address(pub u64);
 
 // The number of an arena word.
-#[derive(Drop)]
+#[derive(Clone, Copy)]
 pub struct Word(pub usize);
 
 // The number of a page.
-#[derive(Drop)]
+#[derive(Clone, Copy)]
 pub struct Page(pub usize);
 
 impl Address {
