@@ -62,10 +62,10 @@ first_of {p} {ph} {t} F s e = record { entry = F.spans.entry s e; inside = F.spa
 
 -- a span as its first page's entry describes it
 module _ (p ph : ℕ) (t : List ℕ) {s : ℕ} {r : Span} (R : Reads t s r) where
-  pub bad_entry : (b : Bool) → T b ↔ GoodEntry r.flagged r.pages → not b ≡ true → GoodSpan p ph t s → ⊥
+  pub bad_entry : (b : Bool) → T b ↔ GoodEntry r.flagged r.pages → b ≡ false → GoodSpan p ph t s → ⊥
   bad_entry b f e F = no b f e (rw (R.flagged, R.pages) F.entry)
 
-  pub bad_flag : (b : Bool) → T b ↔ (ph ≢ sweep → r.unswept ≡ false) → not b ≡ true → GoodSpan p ph t s → ⊥
+  pub bad_flag : (b : Bool) → T b ↔ (ph ≢ sweep → r.unswept ≡ false) → b ≡ false → GoodSpan p ph t s → ⊥
   bad_flag b f e F = no b f e (λ d. R.unswept ∙ lt-leb unswept_flag (kind_entry t s) (F.swept d))
 
   pub span_iff : (b : Bool) → GoodEntry r.flagged r.pages → s + r.pages ≤ p → (ph ≢ sweep → r.unswept ≡ false) → T b ↔ Body t s → T b ↔ GoodSpan p ph t s

@@ -56,17 +56,17 @@ module _ (p : ℕ) (t b : List ℕ) (v : ℕ) where
   pub nil_value : (n : Bool) → n ≡ eqb v 0 → n ≡ true → Reference p t b v
   nil_value n e q = inl (eqb-true v 0 (sym e ∙ q))
 
-  pub no_address : v ≢ 0 → (m : Bool) → m ≡ eqb v (address_of (word_of v)) → not m ≡ true → Reference p t b v → ⊥
+  pub no_address : v ≢ 0 → (m : Bool) → m ≡ eqb v (address_of (word_of v)) → m ≡ false → Reference p t b v → ⊥
   no_address d m e q (inl z) = d z
-  no_address d true e q (inr x) = true≢false (sym q)
+  no_address d true e q (inr x) = true≢false q
   no_address d false e q (inr x) = eqb-false v (address_of (word_of v)) (sym e) x.0
 
   pub past_arena : v ≢ 0 → page_words * p ≤ word_of v → Reference p t b v → ⊥
   past_arena d l (inl z) = d z
   past_arena d l (inr x) = omega (arith, kept_inside p t b (word_of v) x.1)
 
-  pub names_kept : v ≢ 0 → (m : Bool) → m ≡ eqb v (address_of (word_of v)) → not m ≡ false → (w : ℕ) → w ≡ word_of v → (r : Bool) → r ≡ kept_at p t b w → T r ↔ Reference p t b v
-  names_kept d false e q w z r h = absurd (true≢false q)
+  pub names_kept : v ≢ 0 → (m : Bool) → m ≡ eqb v (address_of (word_of v)) → m ≡ true → (w : ℕ) → w ≡ word_of v → (r : Bool) → r ≡ kept_at p t b w → T r ↔ Reference p t b v
+  names_kept d false e q w z r h = absurd (true≢false (sym q))
   names_kept d true e q w z r h = (λ x. inr (eqb-true v (address_of (word_of v)) (sym e), rw k at x), back)
     where
       k : r ≡ kept_at p t b (word_of v)

@@ -1,0 +1,6 @@
+-- `page_table::starts_span` meets its contract.
+use borrow.Author.Rules.{rules}
+use Rattle.page_table.proofs.starts_span.Goals as goal
+
+pub returns : goal.returns
+returns c = rw c.owner.ensures
