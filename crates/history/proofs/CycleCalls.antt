@@ -9,7 +9,7 @@ use borrow.Author.Tests.{ltb-true, ltb-false, ne_eqb}
 use Rattle.marking.proofs.Operations.{State}
 use Rattle.marking.proofs.Represents.{Layout}
 use Rattle.marking.specs.Event
-use Rattle.marking.specs.Ledger.{Ledger, Event}
+use Rattle.marking.specs.Ledger.{Ledger}
 use Rattle.marking.specs.Trace.{Step}
 use Rattle.marking.specs.Trace
 use Rattle.marking.proofs.Agreement.{Agrees}

@@ -84,6 +84,19 @@ module _ {H : WordHeap} {L : Ledger} {S : State} {Y : Layout} (R : Agrees H L S 
   advance n (Trace.mark_step w A q g) step =
       let r = Refinement.step_mark_step R w A q g in
       falls n (Collecting.step r.0) r.1 (mark_falls S R.invariant (phased R p) n r.0 r.1.allowed.1 r.1.allowed.2)
+  advance n Trace.nothing a = elim a [ ]
+  advance n (Trace.setup _ _) a = elim a [ ]
+  advance n (Trace.reset_stack s b _) a = elim a [ ]
+  advance n (Trace.assign s i v _ _ _ _) a = elim a [ ]
+  advance n (Trace.store s j f k _ _ _) a = elim a [ ]
+  advance n (Trace.store_global s g i _ _) a = elim a [ ]
+  advance n (Trace.put s j f v _ _ _ _) a = elim a [ ]
+  advance n (Trace.allocate s i _ _ w arena E unswept _ _ _ _ _ _ _ _ _ _ _) a = elim a [ ]
+  advance n (Trace.get s j f _ _ _) a = elim a [ ]
+  advance n (Trace.start _ _) a = elim a [ ]
+  advance n (Trace.finish unswept _ _ _ _ _ _) a = elim a [ ]
+  advance n (Trace.sweep_step q E _ _ _ _) a = elim a [ ]
+  advance n (Trace.end_cycle _ _ _) a = elim a [ ]
 
 -- PROGRESS in the sweep phase: where an allocated word is unswept before a sweep step and not after it
 pub sweep_advance : {H H' : WordHeap} {L : Ledger} {S : State} {Y : Layout} → Agrees H L S Y → Step H Event.sweep_step H' → (w : ℕ) →
