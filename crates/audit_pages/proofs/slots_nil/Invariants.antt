@@ -1,0 +1,15 @@
+-- The invariant: the slots below i are nil.
+use borrow.Author.Count.{below_none, below_more}
+use lib.ListN.{get_or}
+use native.Mathlib.Omega.{arith}
+use mathlib.Core.Path.{◌≡◌}
+use Prim.Native.Nat.{ℕ, ◌+◌, ◌*◌, ◌-◌, ◌<◌, ◌≤◌}
+use borrow.Author.Rules.{rules}
+use Rattle.model.specs.Memory.{slot_count}
+use Rattle.audit_pages.proofs.slots_nil.Given as goal
+
+abbrev pub invariant-loop-i : goal.invariant-loop-i
+invariant-loop-i l = (l.i ≤ slot_count) × (l.first ≡ slot_count * l.s) × ((k : ℕ) → k < l.i → get_or l.roots (slot_count * l.s + k) 0 ≡ 0)
+
+abbrev pub decreases-loop-i : goal.decreases-loop-i
+decreases-loop-i l = slot_count - l.i

@@ -1,0 +1,20 @@
+-- The invariant: the bits that are not left were taken, and their words hold references. The measure: what lies from the lowest bit that is left on.
+use Rattle.model.specs.Memory.{word_bits}
+use Rattle.audit_words.proofs.Blocks.{BitsTaken, taken_none, taken_one, taken_all, low, lowest_on, higher}
+use Rattle.bitmap.proofs.Bits.{one_up}
+use Rattle.model.specs.Bitmaps.{with_bit_of}
+use Rattle.model.proofs.Answers.{yes, no}
+use Rattle.model.proofs.Bitmaps.{with_bit_fits}
+use lib.Count.{count_trailing_zeros}
+use mathlib.Core.Bool.{false}
+use mathlib.Core.Path.{◌≡◌}
+use Prim.Native.Nat.{◌-◌, ◌*◌, ◌^◌, ◌<◌}
+use native.Mathlib.Omega.{arith}
+use borrow.Author.Rules.{rules}
+use Rattle.audit_words.proofs.block_ok.Given as goal
+
+abbrev pub invariant-loop-left : goal.invariant-loop-left
+invariant-loop-left l = (l.first ≡ word_bits * l.at) × (l.left < 2 ^ 64) × BitsTaken l.p l.arena l.table l.bits l.at l.pointers l.left
+
+abbrev pub decreases-loop-left : goal.decreases-loop-left
+decreases-loop-left l = 64 - count_trailing_zeros 64 l.left

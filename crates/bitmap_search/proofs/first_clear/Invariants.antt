@@ -1,0 +1,18 @@
+-- The invariant: no clear bit from `from` on lies in the words before word number `at`, and the mask is that word's.
+use Prim.Native.Nat.{◌-◌, ◌*◌, ◌^◌}
+use native.Mathlib.Omega.{arith}
+use lib.Bits.{bit_and}
+use lib.Count.{count_trailing_zeros}
+use lib.ListN.{get_or}
+use Rattle.bitmap.proofs.Bits.{trailing_fits}
+use Rattle.bitmap.proofs.Scan.{None, Passed, whole_word}
+use Rattle.bitmap.proofs.Search.{Masked, masked_first, masked_next, pass_from, none_passed, found, none_found}
+use Rattle.bitmap_search.proofs.Search.{is_clear, scan_clear}
+use borrow.Author.Rules.{rules}
+use Rattle.bitmap_search.proofs.first_clear.Given as goal
+
+abbrev pub invariant-loop-at : goal.invariant-loop-at
+invariant-loop-at l = Masked l.from l.at l.mask × None (pass_from (is_clear l.ws) l.from) (l.at * 64)
+
+abbrev pub decreases-loop-at : goal.decreases-loop-at
+decreases-loop-at l = l.end - l.at
