@@ -9,7 +9,7 @@ ghost use Rattle.model.specs.Checks.{buffers_refusal};
 ghost use Rattle.model.specs.Audit.{audit};
 ghost use Rattle.model.specs.Calls.{entry};
 ghost use Rattle.model.specs.Facts.{Sized};
-ghost use Rattle.model.specs.Promises.{SizedHeap, found};
+ghost use Rattle.model.specs.Promises.{SizedHeap, found, shared};
 
 use units::{
     BAD_BUFFERS, BITMAP_WORDS, DAMAGED, ENTRY_NUMBERS, MAX_PAGES, PAGE_WORDS, PHASE, ROOT_WORDS,
@@ -18,7 +18,7 @@ use units::{
 
 // P is 1 to MAX_PAGES, and the four buffers have its lengths.
 fn buffers_ok(p: u64, arena: &[u64], table: &[u32], bits: &[u64], roots: &[u64]) -> bool
-    ensures { T result ↔ Sized (found p arena table bits roots) }
+    ensures { T result ↔ Sized (found p (shared arena) (shared table) (shared bits) (shared roots)) }
 {
     if p < 1 {
         return false;
@@ -41,8 +41,8 @@ fn buffers_ok(p: u64, arena: &[u64], table: &[u32], bits: &[u64], roots: &[u64])
 
 // The audit says yes.
 fn audit(p: usize, arena: &[u64], table: &[u32], bits: &[u64], roots: &[u64]) -> bool
-    requires { SizedHeap p arena table bits roots }
-    ensures { result ≡ audit (found p arena table bits roots) }
+    requires { SizedHeap p arena.now table.now bits.now roots.now }
+    ensures { result ≡ audit (found p (shared arena) (shared table) (shared bits) (shared roots)) }
 {
     if !audit_pages::states_ok(roots) {
         return false;
@@ -63,7 +63,7 @@ fn audit(p: usize, arena: &[u64], table: &[u32], bits: &[u64], roots: &[u64]) ->
 
 // The refusal of P and the lengths, or 0.
 pub fn buffers_refusal(p: u64, arena: &[u64], table: &[u32], bits: &[u64], roots: &[u64]) -> u64
-    ensures { result ≡ buffers_refusal (found p arena table bits roots) }
+    ensures { result ≡ buffers_refusal (found p (shared arena) (shared table) (shared bits) (shared roots)) }
 {
     if !buffers_ok(p, arena, table, bits, roots) {
         return BAD_BUFFERS;
@@ -74,7 +74,7 @@ pub fn buffers_refusal(p: u64, arena: &[u64], table: &[u32], bits: &[u64], roots
 // The refusal that every call after setup gives first: 1 for P and the lengths, 12 for damaged
 // buffers, 0 for neither.
 pub fn entry(p: u64, arena: &[u64], table: &[u32], bits: &[u64], roots: &[u64]) -> u64
-    ensures { result ≡ entry (found p arena table bits roots) }
+    ensures { result ≡ entry (found p (shared arena) (shared table) (shared bits) (shared roots)) }
 {
     let refusal = buffers_refusal(p, arena, table, bits, roots);
     if refusal != 0 {

@@ -5,4 +5,4 @@ use Rattle.model.specs.Promises.{Borrowed}
 
 -- the page table has passed the audit, which may tell that no span is unswept, and there are roots
 abbrev pub ReadableRoots : Bool → ℕ → Borrowed → Borrowed → Borrowed → Type 0
-ReadableRoots swept p table bits roots = Mapped p table.now bits.now × Told swept table.now × Roots roots.now
+ReadableRoots swept p table bits roots = Mapped p table bits × Told swept table × Roots roots

@@ -10,7 +10,7 @@ ghost use Rattle.std.specs.Prelude.{◌≡◌, ◌↔◌, ◌*◌, ◌<◌, ◌�
 ghost use Rattle.model.specs.Memory.{max_pages, page_words, root_words, first_global};
 ghost use Rattle.model.specs.Facts.{Reference, States, kept_at};
 ghost use Rattle.model.specs.Lent.{Mapped, RootReferences, Told};
-ghost use Rattle.model.specs.Promises.{at_entry};
+ghost use Rattle.model.specs.Promises.{at_entry, shared};
 ghost use Rattle.audit_references.specs.Promises.{ReadableRoots};
 ghost use Rattle.audit_references.specs.References.{RootRange, kept_from};
 
@@ -72,8 +72,8 @@ fn range_ok(
     from: usize,
     to: usize,
 ) -> bool
-    requires { ReadableRoots swept p table bits roots × (to ≤ root_words) }
-    ensures { T result ↔ at_entry (RootRange p) table bits roots from to }
+    requires { ReadableRoots swept p table.now bits.now roots.now × (to ≤ root_words) }
+    ensures { T result ↔ at_entry (RootRange p) (shared table) (shared bits) (shared roots) from to }
 {
     let mut i = from;
     while i < to {
@@ -88,8 +88,8 @@ fn range_ok(
 
 // So are the slots of every stack. Those of a closed one are nil.
 fn slots_ok(p: usize, table: &[u32], bits: &[u64], roots: &[u64], swept: bool) -> bool
-    requires { ReadableRoots swept p table bits roots × States roots.now }
-    ensures { T result ↔ at_entry (RootRange p) table bits roots 0 first_global }
+    requires { ReadableRoots swept p table.now bits.now roots.now × States roots.now }
+    ensures { T result ↔ at_entry (RootRange p) (shared table) (shared bits) (shared roots) 0 first_global }
 {
     let mut s = 0;
     while s < STACKS {
@@ -107,8 +107,8 @@ fn slots_ok(p: usize, table: &[u32], bits: &[u64], roots: &[u64], swept: bool) -
 
 // So is every slot and every global.
 pub fn roots_ok(p: usize, table: &[u32], bits: &[u64], roots: &[u64], swept: bool) -> bool
-    requires { ReadableRoots swept p table bits roots × States roots.now }
-    ensures { T result ↔ at_entry (RootReferences p) table bits roots }
+    requires { ReadableRoots swept p table.now bits.now roots.now × States roots.now }
+    ensures { T result ↔ at_entry (RootReferences p) (shared table) (shared bits) (shared roots) }
 {
     if !slots_ok(p, table, bits, roots, swept) {
         return false;

@@ -5,4 +5,4 @@ use Rattle.audit_words.specs.Contents.{Filled}
 
 -- the page table and the bitmaps have passed the audit, and the arena has as many pages
 abbrev pub FilledHeap : ℕ → Borrowed → Borrowed → Borrowed → Type 0
-FilledHeap p arena table bits = Filled p arena.now table.now bits.now
+FilledHeap p arena table bits = Filled p arena table bits

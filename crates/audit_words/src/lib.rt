@@ -10,7 +10,7 @@ ghost use Rattle.model.specs.Memory.{page_blocks};
 ghost use Rattle.model.specs.Facts.{IsSpan};
 ghost use Rattle.page_table.specs.Span.{Reads};
 ghost use Rattle.model.specs.Lent.{Told};
-ghost use Rattle.model.specs.Promises.{at_entry};
+ghost use Rattle.model.specs.Promises.{at_entry, shared};
 ghost use Rattle.audit_words.specs.Promises.{FilledHeap};
 ghost use Rattle.audit_words.specs.Contents.{ElementAt, Searched};
 ghost use Rattle.audit_words.specs.Contents.{Pointers, BlockContents, BlocksContents, SpanContents, Contents};
@@ -30,8 +30,8 @@ fn block_ok(
     at: usize,
     pointers: u64,
 ) -> bool
-    requires { FilledHeap p arena table bits × Told swept table.now × (at < page_blocks * p) }
-    ensures { T result ↔ at_entry (BlockContents p) arena table bits at pointers }
+    requires { FilledHeap p arena.now table.now bits.now × Told swept table.now × (at < page_blocks * p) }
+    ensures { T result ↔ at_entry (BlockContents p) (shared arena) (shared table) (shared bits) at pointers }
 {
     let first = WORD_BITS * at;
     let mut left = pointers;
@@ -56,8 +56,8 @@ fn blocks_ok(
     from: usize,
     to: usize,
 ) -> bool
-    requires { FilledHeap p arena table bits × Told swept table.now × (from ≤ to) × (to ≤ page_blocks * p) }
-    ensures { T result ↔ at_entry (BlocksContents p) arena table bits from to }
+    requires { FilledHeap p arena.now table.now bits.now × Told swept table.now × (from ≤ to) × (to ≤ page_blocks * p) }
+    ensures { T result ↔ at_entry (BlocksContents p) (shared arena) (shared table) (shared bits) from to }
 {
     let part = POINTER_PART * (PAGE_BLOCKS * p);
     let mut k = from;
@@ -75,8 +75,8 @@ fn blocks_ok(
 // The pointer words of the element of n words at word w hold references. Behind the first word that
 // is no pointer there is none.
 fn pointers_ok(p: usize, arena: &[u64], table: &[u32], bits: &[u64], w: Word, n: usize) -> bool
-    requires { FilledHeap p arena table bits × ElementAt p table.now w.0 n }
-    ensures { T result ↔ at_entry (Pointers p) arena table bits w.0 n }
+    requires { FilledHeap p arena.now table.now bits.now × ElementAt p table.now w.0 n }
+    ensures { T result ↔ at_entry (Pointers p) (shared arena) (shared table) (shared bits) w.0 n }
 {
     let start = w.0;
     let first = POINTER_PART * (PAGE_WORDS * p) + start;
@@ -107,8 +107,8 @@ fn elements_ok(
     from: usize,
     end: usize,
 ) -> bool
-    requires { FilledHeap p arena table bits × Searched p table.now s.0 n from end }
-    ensures { T result ↔ at_entry (SpanContents p) arena table bits s.0 }
+    requires { FilledHeap p arena.now table.now bits.now × Searched p table.now s.0 n from end }
+    ensures { T result ↔ at_entry (SpanContents p) (shared arena) (shared table) (shared bits) s.0 }
 {
     let first = s.first_word().0;
     let mut at = from + first;
@@ -127,9 +127,9 @@ fn elements_ok(
 
 // The same, for the span as its entry describes it.
 fn span_ok(p: usize, arena: &[u64], table: &[u32], bits: &[u64], swept: bool, span: Span) -> bool
-    requires { FilledHeap p arena table bits × Told swept table.now ×
+    requires { FilledHeap p arena.now table.now bits.now × Told swept table.now ×
         IsSpan table.now span.start.0 × Reads table.now span.start.0 span }
-    ensures { T result ↔ at_entry (SpanContents p) arena table bits span.start.0 }
+    ensures { T result ↔ at_entry (SpanContents p) (shared arena) (shared table) (shared bits) span.start.0 }
 {
     let page = span.start.0;
     let count = span.pages;
@@ -147,8 +147,8 @@ fn span_ok(p: usize, arena: &[u64], table: &[u32], bits: &[u64], swept: bool, sp
 
 // Every pointer word of a kept element holds a reference.
 pub fn contents_ok(p: usize, arena: &[u64], table: &[u32], bits: &[u64], swept: bool) -> bool
-    requires { FilledHeap p arena table bits × Told swept table.now }
-    ensures { T result ↔ at_entry (Contents p) arena table bits }
+    requires { FilledHeap p arena.now table.now bits.now × Told swept table.now }
+    ensures { T result ↔ at_entry (Contents p) (shared arena) (shared table) (shared bits) }
 {
     let mut g = 0;
     while g < p {

@@ -15,7 +15,7 @@ with_values answer out = set (set (set out 0 (number_of answer 1)) 1 (number_of 
 
 -- an answer is written out: the result is its refusal, 0 where it is accepted, and the lent array has its three values
 abbrev pub Written : Answer → Buffer → ℕ → Type 0
-Written answer out r = (r ≡ number_of answer 0) × (out.exit.now ≡ with_values answer out.entry.now)
+Written answer out r = (r ≡ number_of answer 0) × (out.exit ≡ with_values answer out.entry)
 
 -- what a call for C promises, of P, the four buffers and the array of values: the call is made, and its answer written out
 abbrev pub Exports : Call → ℕ → Buffer → Buffer → Buffer → Buffer → Buffer → ℕ → Type 0

@@ -4,6 +4,7 @@
 
 ghost use Rattle.std.specs.Prelude.{◌≡◌, set};
 ghost use Rattle.c_answer.specs.Exported.{Written};
+ghost use Rattle.model.specs.Promises.{exclusive};
 
 use model::Answer;
 
@@ -18,7 +19,7 @@ fn put(out: &mut [u64; 3], first: u64, second: u64, third: u64)
 
 // The answer's refusal, 0 where the call is accepted; its values go to `out`, 0 where it has none.
 pub fn write_answer(answer: Answer, out: &mut [u64; 3]) -> u64
-    ensures { Written answer out result }
+    ensures { Written answer (exclusive out) result }
 {
     match answer {
         Answer::Refused(n) => {

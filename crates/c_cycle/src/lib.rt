@@ -4,6 +4,7 @@
 
 ghost use Rattle.model.specs.declared.Call.TheVariants.{Start, ScanStack, ScanGlobals, MarkStep, Finish, SweepStep};
 ghost use Rattle.c_answer.specs.Exported.{Exports};
+ghost use Rattle.model.specs.Promises.{exclusive, shared};
 
 use c_answer::write_answer;
 use model::Answer;
@@ -17,7 +18,7 @@ pub extern "C" fn heap_start(
     roots: &mut [u64],
     out: &mut [u64; 3],
 ) -> u64
-    ensures { Exports Start p arena table bits roots out result }
+    ensures { Exports Start p (shared arena) (shared table) (shared bits) (exclusive roots) (exclusive out) result }
 {
     let refusal = audit::entry(p, arena, table, bits, roots);
     if refusal != 0 {
@@ -37,7 +38,7 @@ pub extern "C" fn heap_scan_stack(
     s: u64,
     out: &mut [u64; 3],
 ) -> u64
-    ensures { Exports (ScanStack s) p arena table bits roots out result }
+    ensures { Exports (ScanStack s) p (shared arena) (shared table) (exclusive bits) (exclusive roots) (exclusive out) result }
 {
     let refusal = audit::entry(p, arena, table, bits, roots);
     if refusal != 0 {
@@ -56,7 +57,7 @@ pub extern "C" fn heap_scan_globals(
     roots: &mut [u64],
     out: &mut [u64; 3],
 ) -> u64
-    ensures { Exports ScanGlobals p arena table bits roots out result }
+    ensures { Exports ScanGlobals p (shared arena) (shared table) (exclusive bits) (exclusive roots) (exclusive out) result }
 {
     let refusal = audit::entry(p, arena, table, bits, roots);
     if refusal != 0 {
@@ -75,7 +76,7 @@ pub extern "C" fn heap_mark_step(
     roots: &[u64],
     out: &mut [u64; 3],
 ) -> u64
-    ensures { Exports MarkStep p arena table bits roots out result }
+    ensures { Exports MarkStep p (shared arena) (shared table) (exclusive bits) (shared roots) (exclusive out) result }
 {
     let refusal = audit::entry(p, arena, table, bits, roots);
     if refusal != 0 {
@@ -94,7 +95,7 @@ pub extern "C" fn heap_finish(
     roots: &mut [u64],
     out: &mut [u64; 3],
 ) -> u64
-    ensures { Exports Finish p arena table bits roots out result }
+    ensures { Exports Finish p (shared arena) (exclusive table) (shared bits) (exclusive roots) (exclusive out) result }
 {
     let refusal = audit::entry(p, arena, table, bits, roots);
     if refusal != 0 {
@@ -113,7 +114,7 @@ pub extern "C" fn heap_sweep_step(
     roots: &mut [u64],
     out: &mut [u64; 3],
 ) -> u64
-    ensures { Exports SweepStep p arena table bits roots out result }
+    ensures { Exports SweepStep p (shared arena) (exclusive table) (exclusive bits) (exclusive roots) (exclusive out) result }
 {
     let refusal = audit::entry(p, arena, table, bits, roots);
     if refusal != 0 {

@@ -5,6 +5,7 @@
 
 ghost use Rattle.model.specs.declared.Call.TheVariants.{Allocate, Load, Store, Put, Get, StoreGlobal};
 ghost use Rattle.c_answer.specs.Exported.{Exports};
+ghost use Rattle.model.specs.Promises.{exclusive, shared};
 
 use c_answer::write_answer;
 use model::Answer;
@@ -22,7 +23,7 @@ pub extern "C" fn heap_alloc(
     pointers: u64,
     out: &mut [u64; 3],
 ) -> u64
-    ensures { Exports (Allocate s i size pointers) p arena table bits roots out result }
+    ensures { Exports (Allocate s i size pointers) p (exclusive arena) (exclusive table) (exclusive bits) (exclusive roots) (exclusive out) result }
 {
     let refusal = audit::entry(p, arena, table, bits, roots);
     if refusal != 0 {
@@ -47,7 +48,7 @@ pub extern "C" fn heap_load(
     f: u64,
     out: &mut [u64; 3],
 ) -> u64
-    ensures { Exports (Load s i j f) p arena table bits roots out result }
+    ensures { Exports (Load s i j f) p (shared arena) (shared table) (shared bits) (exclusive roots) (exclusive out) result }
 {
     let refusal = audit::entry(p, arena, table, bits, roots);
     if refusal != 0 {
@@ -70,7 +71,7 @@ pub extern "C" fn heap_store(
     k: u64,
     out: &mut [u64; 3],
 ) -> u64
-    ensures { Exports (Store s j f k) p arena table bits roots out result }
+    ensures { Exports (Store s j f k) p (exclusive arena) (shared table) (exclusive bits) (shared roots) (exclusive out) result }
 {
     let refusal = audit::entry(p, arena, table, bits, roots);
     if refusal != 0 {
@@ -93,7 +94,7 @@ pub extern "C" fn heap_put(
     v: u64,
     out: &mut [u64; 3],
 ) -> u64
-    ensures { Exports (Put s j f v) p arena table bits roots out result }
+    ensures { Exports (Put s j f v) p (exclusive arena) (shared table) (shared bits) (shared roots) (exclusive out) result }
 {
     let refusal = audit::entry(p, arena, table, bits, roots);
     if refusal != 0 {
@@ -115,7 +116,7 @@ pub extern "C" fn heap_get(
     f: u64,
     out: &mut [u64; 3],
 ) -> u64
-    ensures { Exports (Get s j f) p arena table bits roots out result }
+    ensures { Exports (Get s j f) p (shared arena) (shared table) (shared bits) (shared roots) (exclusive out) result }
 {
     let refusal = audit::entry(p, arena, table, bits, roots);
     if refusal != 0 {
@@ -137,7 +138,7 @@ pub extern "C" fn heap_store_global(
     i: u64,
     out: &mut [u64; 3],
 ) -> u64
-    ensures { Exports (StoreGlobal s g i) p arena table bits roots out result }
+    ensures { Exports (StoreGlobal s g i) p (shared arena) (shared table) (exclusive bits) (exclusive roots) (exclusive out) result }
 {
     let refusal = audit::entry(p, arena, table, bits, roots);
     if refusal != 0 {

@@ -8,6 +8,7 @@
 
 ghost use Rattle.model.specs.declared.Call.TheVariants.{Setup, Audit};
 ghost use Rattle.c_answer.specs.Exported.{Exports};
+ghost use Rattle.model.specs.Promises.{exclusive, shared};
 
 use c_answer::write_answer;
 use model::Answer;
@@ -21,7 +22,7 @@ pub extern "C" fn heap_setup(
     roots: &mut [u64],
     out: &mut [u64; 3],
 ) -> u64
-    ensures { Exports Setup p arena table bits roots out result }
+    ensures { Exports Setup p (shared arena) (exclusive table) (exclusive bits) (exclusive roots) (exclusive out) result }
 {
     let refusal = audit::buffers_refusal(p, arena, table, bits, roots);
     if refusal != 0 {
@@ -40,7 +41,7 @@ pub extern "C" fn heap_audit(
     roots: &[u64],
     out: &mut [u64; 3],
 ) -> u64
-    ensures { Exports Audit p arena table bits roots out result }
+    ensures { Exports Audit p (shared arena) (shared table) (shared bits) (shared roots) (exclusive out) result }
 {
     let refusal = audit::entry(p, arena, table, bits, roots);
     if refusal != 0 {

@@ -4,6 +4,7 @@
 
 ghost use Rattle.model.specs.declared.Call.TheVariants.{Open, Close, Copy, Clear, LoadGlobal};
 ghost use Rattle.c_answer.specs.Exported.{Exports};
+ghost use Rattle.model.specs.Promises.{exclusive, shared};
 
 use c_answer::write_answer;
 use model::Answer;
@@ -18,7 +19,7 @@ pub extern "C" fn heap_open(
     s: u64,
     out: &mut [u64; 3],
 ) -> u64
-    ensures { Exports (Open s) p arena table bits roots out result }
+    ensures { Exports (Open s) p (shared arena) (shared table) (shared bits) (exclusive roots) (exclusive out) result }
 {
     let refusal = audit::entry(p, arena, table, bits, roots);
     if refusal != 0 {
@@ -38,7 +39,7 @@ pub extern "C" fn heap_close(
     s: u64,
     out: &mut [u64; 3],
 ) -> u64
-    ensures { Exports (Close s) p arena table bits roots out result }
+    ensures { Exports (Close s) p (shared arena) (shared table) (shared bits) (exclusive roots) (exclusive out) result }
 {
     let refusal = audit::entry(p, arena, table, bits, roots);
     if refusal != 0 {
@@ -60,7 +61,7 @@ pub extern "C" fn heap_copy(
     j: u64,
     out: &mut [u64; 3],
 ) -> u64
-    ensures { Exports (Copy s i j) p arena table bits roots out result }
+    ensures { Exports (Copy s i j) p (shared arena) (shared table) (shared bits) (exclusive roots) (exclusive out) result }
 {
     let refusal = audit::entry(p, arena, table, bits, roots);
     if refusal != 0 {
@@ -81,7 +82,7 @@ pub extern "C" fn heap_clear(
     i: u64,
     out: &mut [u64; 3],
 ) -> u64
-    ensures { Exports (Clear s i) p arena table bits roots out result }
+    ensures { Exports (Clear s i) p (shared arena) (shared table) (shared bits) (exclusive roots) (exclusive out) result }
 {
     let refusal = audit::entry(p, arena, table, bits, roots);
     if refusal != 0 {
@@ -103,7 +104,7 @@ pub extern "C" fn heap_load_global(
     g: u64,
     out: &mut [u64; 3],
 ) -> u64
-    ensures { Exports (LoadGlobal s i g) p arena table bits roots out result }
+    ensures { Exports (LoadGlobal s i g) p (shared arena) (shared table) (shared bits) (exclusive roots) (exclusive out) result }
 {
     let refusal = audit::entry(p, arena, table, bits, roots);
     if refusal != 0 {

@@ -33,10 +33,10 @@ pub record ElementTaken (h : Heap) (w n q i : ℕ) (address : ℕ) (a b r : List
 
 -- the two, of buffers as they are lent, whatever the page table
 abbrev pub CanTake : ℕ → ℕ → ℕ → ℕ → ℕ → Borrowed → Borrowed → Borrowed → Type 0
-CanTake w n q i p arena bits roots = ElementFor p w n q i arena.now bits.now roots.now
+CanTake w n q i p arena bits roots = ElementFor p w n q i arena bits roots
 
 abbrev pub TakesElement : ℕ → ℕ → ℕ → ℕ → ℕ → Buffer → Buffer → Buffer → ℕ → Type 0
 TakesElement w n q i p arena bits roots address =
     (t : List ℕ) →
-    ElementTaken (lent p arena.entry.now t bits.entry.now roots.entry.now) w n q i address
-    arena.exit.now bits.exit.now roots.exit.now
+    ElementTaken (lent p arena.entry t bits.entry roots.entry) w n q i address
+    arena.exit bits.exit roots.exit

@@ -5,7 +5,7 @@
 ghost use Rattle.std.specs.Prelude.{true, ◌≡◌};
 ghost use Rattle.model.specs.Memory.{page_of};
 ghost use Rattle.model.specs.Allocate.{new_bits, allocate};
-ghost use Rattle.model.specs.Promises.{AuditedHeap, Does, ByBitsAndRoots};
+ghost use Rattle.model.specs.Promises.{AuditedHeap, Does, ByBitsAndRoots, exclusive, shared};
 ghost use Rattle.page_entries.specs.Needs.{NewEntries};
 ghost use Rattle.call_allocate.specs.Needs.{extended, MarksNew, CanTake, TakesElement};
 
@@ -28,7 +28,7 @@ fn extend(table: &mut [u32], fresh: bool, w: Word, shape: Shape)
 // depend on the arena and the page table.
 fn mark_new(p: usize, bits: &mut [u64], roots: &[u64], w: Word, pointers: usize)
     requires { MarksNew p w.0 pointers bits.old roots.now }
-    ensures { ByBitsAndRoots (λ h. bits.new ≡ new_bits h w.0 pointers) p bits roots }
+    ensures { ByBitsAndRoots (λ h. bits.new ≡ new_bits h w.0 pointers) p (exclusive bits) (shared roots) }
 {
     let at = w.0;
     let words = units::PAGE_WORDS * p;
@@ -51,8 +51,8 @@ fn take(
     pointers: usize,
     slot: usize,
 ) -> Address
-    requires { CanTake w.0 n pointers slot p arena bits roots }
-    ensures { TakesElement w.0 n pointers slot p arena bits roots result.0 }
+    requires { CanTake w.0 n pointers slot p arena.old bits.old roots.old }
+    ensures { TakesElement w.0 n pointers slot p (exclusive arena) (exclusive bits) (exclusive roots) result.0 }
 {
     zeroing::zero_part(arena, w.0, n);
     mark_new(p, bits, roots, w, pointers);
@@ -73,8 +73,8 @@ pub fn allocate(
     size: u64,
     pointers: u64,
 ) -> Answer
-    requires { AuditedHeap p arena table bits roots }
-    ensures { Does (λ h. allocate h s i size pointers) p arena table bits roots result }
+    requires { AuditedHeap p arena.old table.old bits.old roots.old }
+    ensures { Does (λ h. allocate h s i size pointers) p (exclusive arena) (exclusive table) (exclusive bits) (exclusive roots) result }
 {
     let place = record_room::choose(p, table, bits, roots, s, i, size, pointers);
     let refusal = place.refusal;

@@ -16,12 +16,12 @@ pub record Gray (h : Heap) (w : ℕ) : Type 0 where
 
 -- .. of lent buffers, with some roots
 abbrev pub LentGray : ℕ → Borrowed → Borrowed → Borrowed → ℕ → Type 0
-LentGray p arena table bits w = (r : List ℕ) × Gray (lent p arena.now table.now bits.now r) w
+LentGray p arena table bits w = (r : List ℕ) × Gray (lent p arena table bits r) w
 
 -- the bitmaps after its scan, for any roots
 abbrev pub ScansRecord : ℕ → Buffer → Buffer → Buffer → ℕ → Type 0
 ScansRecord p arena table bits w =
-    (r : List ℕ) → bits.exit.now ≡ scan_record w (lent p arena.entry.now table.entry.now bits.entry.now r)
+    (r : List ℕ) → bits.exit ≡ scan_record w (lent p arena.entry table.entry bits.entry r)
 
 -- the refusal of a finish by the roots: a stack or the globals are gray
 abbrev pub roots_refusal : Heap → ℕ

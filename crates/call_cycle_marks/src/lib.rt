@@ -10,7 +10,7 @@ ghost use Rattle.model.specs.Spans.{pointer_count};
 ghost use Rattle.model.specs.Cycle.{first_gray, mark_step, finish_refusal, finish};
 ghost use Rattle.model.specs.Facts.{Element};
 ghost use Rattle.model.specs.Lent.{Roots, Bitmaps, Mapped};
-ghost use Rattle.model.specs.Promises.{AuditedHeap, AuditedTables, Does, DoesWithoutArena, GivesByRoots};
+ghost use Rattle.model.specs.Promises.{AuditedHeap, AuditedTables, Does, DoesWithoutArena, GivesByRoots, exclusive, shared};
 ghost use Rattle.model.specs.Promises.{ByTables, ByBits, ByBitsAndRoots};
 ghost use Rattle.call_cycle_marks.specs.Needs.{LentGray, ScansRecord, roots_refusal};
 
@@ -20,7 +20,7 @@ use units::{GRAY_PART, PAGE_WORDS, POINTER_PART, Word};
 // The first word of the lowest gray record, or the word after the arena's last.
 fn first_gray(p: usize, bits: &[u64]) -> Word
     requires { Bitmaps p bits.now }
-    ensures { ByBits (λ h. result.0 ≡ first_gray h) p bits }
+    ensures { ByBits (λ h. result.0 ≡ first_gray h) p (shared bits) }
 {
     let words = PAGE_WORDS * p;
     let grays = GRAY_PART * words;
@@ -32,7 +32,7 @@ fn first_gray(p: usize, bits: &[u64]) -> Word
 // up to its element's end at most.
 fn pointer_count(p: usize, table: &[u32], bits: &[u64], w: Word) -> usize
     requires { Mapped p table.now bits.now × Element table.now w.0 }
-    ensures { ByTables (λ h. result ≡ pointer_count h w.0) p table bits }
+    ensures { ByTables (λ h. result ≡ pointer_count h w.0) p (shared table) (shared bits) }
 {
     let at = w.0;
     let span = page_table::span_with_word(table, w);
@@ -43,8 +43,8 @@ fn pointer_count(p: usize, table: &[u32], bits: &[u64], w: Word) -> usize
 
 // The gray record at word w: its gray bit goes, and its pointer words are shaded.
 fn scan_record(p: usize, arena: &[u64], table: &[u32], bits: &mut [u64], w: Word)
-    requires { LentGray p arena table bits w.0 }
-    ensures { ScansRecord p arena table bits w.0 }
+    requires { LentGray p arena.now table.now bits.old w.0 }
+    ensures { ScansRecord p (shared arena) (shared table) (exclusive bits) w.0 }
 {
     let at = w.0;
     let n = pointer_count(p, table, bits, w);
@@ -54,8 +54,8 @@ fn scan_record(p: usize, arena: &[u64], table: &[u32], bits: &mut [u64], w: Word
 
 // One mark step: the gray record with the lowest address.
 pub fn mark_step(p: usize, arena: &[u64], table: &[u32], bits: &mut [u64], roots: &[u64]) -> Answer
-    requires { AuditedHeap p arena table bits roots }
-    ensures { Does (λ h. mark_step h) p arena table bits roots result }
+    requires { AuditedHeap p arena.now table.now bits.old roots.now }
+    ensures { Does (λ h. mark_step h) p (shared arena) (shared table) (exclusive bits) (shared roots) result }
 {
     if roots[units::PHASE] != units::MARK {
         return Answer::Refused(units::WRONG_PHASE);
@@ -88,7 +88,7 @@ fn some_gray(roots: &[u64]) -> bool
 // The refusal of a finish by the roots: a stack or the globals are gray.
 fn roots_refusal(roots: &[u64]) -> u64
     requires { Roots roots.now }
-    ensures { GivesByRoots (λ h. roots_refusal h) roots result }
+    ensures { GivesByRoots (λ h. roots_refusal h) (shared roots) result }
 {
     if some_gray(roots) {
         return units::UNFINISHED;
@@ -102,7 +102,7 @@ fn roots_refusal(roots: &[u64]) -> u64
 // The refusal of a finish: the phase, or something is gray.
 fn finish_refusal(p: usize, bits: &[u64], roots: &[u64]) -> u64
     requires { Bitmaps p bits.now × Roots roots.now }
-    ensures { ByBitsAndRoots (λ h. result ≡ finish_refusal h) p bits roots }
+    ensures { ByBitsAndRoots (λ h. result ≡ finish_refusal h) p (shared bits) (shared roots) }
 {
     let phase = root_checks::not_in(roots, units::MARK);
     let gray = roots_refusal(roots);
@@ -121,8 +121,8 @@ fn finish_refusal(p: usize, bits: &[u64], roots: &[u64]) -> u64
 
 // Marking ends: every span becomes unswept.
 pub fn finish(p: usize, table: &mut [u32], bits: &[u64], roots: &mut [u64]) -> Answer
-    requires { AuditedTables p table bits roots }
-    ensures { DoesWithoutArena (λ h. finish h) p table bits roots result }
+    requires { AuditedTables p table.old bits.now roots.old }
+    ensures { DoesWithoutArena (λ h. finish h) p (exclusive table) (shared bits) (exclusive roots) result }
 {
     let n = finish_refusal(p, bits, roots);
     if n != 0 {

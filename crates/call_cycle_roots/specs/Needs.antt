@@ -15,8 +15,8 @@ pub record Scannable (p : ℕ) (t b r : List ℕ) (from n at : ℕ) : Type 0 whe
 
 -- .. of lent buffers
 abbrev pub LentScan : ℕ → Borrowed → Borrowed → Borrowed → ℕ → ℕ → ℕ → Type 0
-LentScan p table bits roots from n at = Scannable p table.now bits.now roots.now from n at
+LentScan p table bits roots from n at = Scannable p table bits roots from n at
 
 -- the outcome of their scan
 abbrev pub Scans : ℕ → Buffer → Buffer → Buffer → ℕ → ℕ → ℕ → Answer → Type 0
-Scans p table bits roots from n at r = DoesWithoutArena (scan_outcome 0 n (λ i. get_or roots.entry.now (from + i) 0) at) p table bits roots r
+Scans p table bits roots from n at r = DoesWithoutArena (scan_outcome 0 n (λ i. get_or roots.entry (from + i) 0) at) p table bits roots r

@@ -9,7 +9,7 @@ ghost use Rattle.model.specs.Answers.{◌orElse◌};
 ghost use Rattle.model.specs.Checks.{phase_refusal, open_refusal};
 ghost use Rattle.model.specs.Cycle.{start, scan_stack, scan_globals};
 ghost use Rattle.model.specs.Lent.{Roots};
-ghost use Rattle.model.specs.Promises.{AuditedTables, DoesByRoots, DoesWithoutArena, GivesByRoots};
+ghost use Rattle.model.specs.Promises.{AuditedTables, DoesByRoots, DoesWithoutArena, GivesByRoots, exclusive, shared};
 ghost use Rattle.call_cycle_roots.specs.Needs.{LentScan, Scans};
 
 use model::Answer;
@@ -41,7 +41,7 @@ fn gray_stacks(roots: &mut [u64])
 // A cycle starts. No bitmap is lent: nothing is marked yet.
 pub fn start(roots: &mut [u64]) -> Answer
     requires { Roots roots.old }
-    ensures { DoesByRoots (λ h. start h) roots result }
+    ensures { DoesByRoots (λ h. start h) (exclusive roots) result }
 {
     if roots[units::PHASE] != units::OFF {
         return Answer::Refused(units::WRONG_PHASE);
@@ -63,8 +63,8 @@ fn scan(
     n: usize,
     at: usize,
 ) -> Answer
-    requires { LentScan p table bits roots from n at }
-    ensures { Scans p table bits roots from n at result }
+    requires { LentScan p table.now bits.old roots.old from n at }
+    ensures { Scans p (shared table) (exclusive bits) (exclusive roots) from n at result }
 {
     if roots[at] != units::GRAY {
         return Answer::Value(0);
@@ -77,7 +77,7 @@ fn scan(
 // The refusal of a scan of stack s.
 fn scan_refusal(roots: &[u64], s: u64) -> u64
     requires { Roots roots.now }
-    ensures { GivesByRoots (λ h. phase_refusal h mark or_else open_refusal h s) roots result }
+    ensures { GivesByRoots (λ h. phase_refusal h mark or_else open_refusal h s) (shared roots) result }
 {
     let phase = root_checks::not_in(roots, units::MARK);
     let stack = root_checks::not_open(roots, s);
@@ -89,8 +89,8 @@ fn scan_refusal(roots: &[u64], s: u64) -> u64
 
 // Stack s is scanned.
 pub fn scan_stack(p: usize, table: &[u32], bits: &mut [u64], roots: &mut [u64], s: u64) -> Answer
-    requires { AuditedTables p table bits roots }
-    ensures { DoesWithoutArena (λ h. scan_stack h s) p table bits roots result }
+    requires { AuditedTables p table.now bits.old roots.old }
+    ensures { DoesWithoutArena (λ h. scan_stack h s) p (shared table) (exclusive bits) (exclusive roots) result }
 {
     let n = scan_refusal(roots, s);
     if n != 0 {
@@ -110,8 +110,8 @@ pub fn scan_stack(p: usize, table: &[u32], bits: &mut [u64], roots: &mut [u64], 
 
 // The globals are scanned.
 pub fn scan_globals(p: usize, table: &[u32], bits: &mut [u64], roots: &mut [u64]) -> Answer
-    requires { AuditedTables p table bits roots }
-    ensures { DoesWithoutArena (λ h. scan_globals h) p table bits roots result }
+    requires { AuditedTables p table.now bits.old roots.old }
+    ensures { DoesWithoutArena (λ h. scan_globals h) p (shared table) (exclusive bits) (exclusive roots) result }
 {
     if roots[units::PHASE] != units::MARK {
         return Answer::Refused(units::WRONG_PHASE);

@@ -3,14 +3,14 @@
 #![tactic(auto)]
 
 ghost use Rattle.model.specs.Cycle.{sweep_step};
-ghost use Rattle.model.specs.Promises.{AuditedTables, DoesWithoutArena};
+ghost use Rattle.model.specs.Promises.{AuditedTables, DoesWithoutArena, exclusive};
 
 use model::Answer;
 
 // One sweep step: the lowest unswept span is swept; where there is none the cycle ends.
 pub fn sweep_step(p: usize, table: &mut [u32], bits: &mut [u64], roots: &mut [u64]) -> Answer
-    requires { AuditedTables p table bits roots }
-    ensures { DoesWithoutArena (λ h. sweep_step h) p table bits roots result }
+    requires { AuditedTables p table.old bits.old roots.old }
+    ensures { DoesWithoutArena (λ h. sweep_step h) p (exclusive table) (exclusive bits) (exclusive roots) result }
 {
     if roots[units::PHASE] != units::SWEEP {
         return Answer::Refused(units::WRONG_PHASE);

@@ -5,7 +5,7 @@
 #![tactic(auto)]
 
 ghost use Rattle.model.specs.Records.{load, store, put, get, store_global};
-ghost use Rattle.model.specs.Promises.{AuditedHeap, AuditedTables, Does, DoesWithoutArena};
+ghost use Rattle.model.specs.Promises.{AuditedHeap, AuditedTables, Does, DoesWithoutArena, exclusive, shared};
 
 use model::Answer;
 use record_fields::Field;
@@ -23,8 +23,8 @@ pub fn load(
     j: u64,
     f: u64,
 ) -> Answer
-    requires { AuditedHeap p arena table bits roots }
-    ensures { Does (λ h. load h s i j f) p arena table bits roots result }
+    requires { AuditedHeap p arena.now table.now bits.now roots.old }
+    ensures { Does (λ h. load h s i j f) p (shared arena) (shared table) (shared bits) (exclusive roots) result }
 {
     let from = match record_fields::find(p, table, bits, roots, s, i, j, f) {
         Field::Pointer(w) => w.0,
@@ -49,8 +49,8 @@ pub fn store(
     f: u64,
     k: u64,
 ) -> Answer
-    requires { AuditedHeap p arena table bits roots }
-    ensures { Does (λ h. store h s j f k) p arena table bits roots result }
+    requires { AuditedHeap p arena.old table.now bits.old roots.now }
+    ensures { Does (λ h. store h s j f k) p (exclusive arena) (shared table) (exclusive bits) (shared roots) result }
 {
     let at = match record_fields::find(p, table, bits, roots, s, k, j, f) {
         Field::Pointer(w) => w.0,
@@ -77,8 +77,8 @@ pub fn put(
     f: u64,
     v: u64,
 ) -> Answer
-    requires { AuditedHeap p arena table bits roots }
-    ensures { Does (λ h. put h s j f v) p arena table bits roots result }
+    requires { AuditedHeap p arena.old table.now bits.now roots.now }
+    ensures { Does (λ h. put h s j f v) p (exclusive arena) (shared table) (shared bits) (shared roots) result }
 {
     let to = match record_fields::find(p, table, bits, roots, s, j, j, f) {
         Field::Number(w) => w.0,
@@ -100,8 +100,8 @@ pub fn get(
     j: u64,
     f: u64,
 ) -> Answer
-    requires { AuditedHeap p arena table bits roots }
-    ensures { Does (λ h. get h s j f) p arena table bits roots result }
+    requires { AuditedHeap p arena.now table.now bits.now roots.now }
+    ensures { Does (λ h. get h s j f) p (shared arena) (shared table) (shared bits) (shared roots) result }
 {
     let at = match record_fields::find(p, table, bits, roots, s, j, j, f) {
         Field::Number(w) => w.0,
@@ -122,8 +122,8 @@ pub fn store_global(
     g: u64,
     i: u64,
 ) -> Answer
-    requires { AuditedTables p table bits roots }
-    ensures { DoesWithoutArena (λ h. store_global h s g i) p table bits roots result }
+    requires { AuditedTables p table.now bits.old roots.old }
+    ensures { DoesWithoutArena (λ h. store_global h s g i) p (shared table) (exclusive bits) (exclusive roots) result }
 {
     let n = root_checks::global_refusal(roots, s, i, g);
     if n != 0 {

@@ -13,4 +13,4 @@ pub record Emptied (t b s t' b' s' : List ℕ) (r : Answer) : Type 0 where
 
 abbrev pub SetsUp : Buffer → Buffer → Buffer → Answer → Type 0
 SetsUp table bits roots r =
-    Emptied table.entry.now bits.entry.now roots.entry.now table.exit.now bits.exit.now roots.exit.now r
+    Emptied table.entry bits.entry roots.entry table.exit bits.exit roots.exit r

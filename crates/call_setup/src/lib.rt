@@ -4,13 +4,14 @@
 
 ghost use Rattle.model.specs.Lent.{Roots};
 ghost use Rattle.call_setup.specs.SetUp.{SetsUp};
+ghost use Rattle.model.specs.Promises.{exclusive};
 
 use model::Answer;
 
 // The page table and the bitmaps become 0, and so do the roots but for the globals' state.
 pub fn setup(table: &mut [u32], bits: &mut [u64], roots: &mut [u64]) -> Answer
     requires { Roots roots.old }
-    ensures { SetsUp table bits roots result }
+    ensures { SetsUp (exclusive table) (exclusive bits) (exclusive roots) result }
 {
     zeroing::zero_numbers(table);
     zeroing::zero(bits);

@@ -8,14 +8,14 @@ ghost use Rattle.std.specs.Prelude.{◌<◌};
 ghost use Rattle.model.specs.Memory.{stack_count};
 ghost use Rattle.model.specs.Records.{emptied, open_stack, close_stack, copy, clear, load_global};
 ghost use Rattle.model.specs.Lent.{Roots};
-ghost use Rattle.model.specs.Promises.{LeavesRoots, DoesByRoots};
+ghost use Rattle.model.specs.Promises.{LeavesRoots, DoesByRoots, exclusive};
 
 use model::Answer;
 
 // All slots of stack s become nil, and its state is set.
 fn empty(roots: &mut [u64], s: usize, state: u64)
     requires { (s < stack_count) × Roots roots.old }
-    ensures { LeavesRoots (λ h. emptied h s state) roots }
+    ensures { LeavesRoots (λ h. emptied h s state) (exclusive roots) }
 {
     zeroing::zero_part(roots, units::SLOTS * s, units::SLOTS);
     roots[units::FIRST_STATE + s] = state;
@@ -23,7 +23,7 @@ fn empty(roots: &mut [u64], s: usize, state: u64)
 
 pub fn open_stack(roots: &mut [u64], s: u64) -> Answer
     requires { Roots roots.old }
-    ensures { DoesByRoots (λ h. open_stack h s) roots result }
+    ensures { DoesByRoots (λ h. open_stack h s) (exclusive roots) result }
 {
     let n = root_checks::not_closed(roots, s);
     if n != 0 {
@@ -35,7 +35,7 @@ pub fn open_stack(roots: &mut [u64], s: u64) -> Answer
 
 pub fn close_stack(roots: &mut [u64], s: u64) -> Answer
     requires { Roots roots.old }
-    ensures { DoesByRoots (λ h. close_stack h s) roots result }
+    ensures { DoesByRoots (λ h. close_stack h s) (exclusive roots) result }
 {
     let n = root_checks::not_open(roots, s);
     if n != 0 {
@@ -48,7 +48,7 @@ pub fn close_stack(roots: &mut [u64], s: u64) -> Answer
 // Slot i of stack s becomes slot j.
 pub fn copy(roots: &mut [u64], s: u64, i: u64, j: u64) -> Answer
     requires { Roots roots.old }
-    ensures { DoesByRoots (λ h. copy h s i j) roots result }
+    ensures { DoesByRoots (λ h. copy h s i j) (exclusive roots) result }
 {
     let n = root_checks::slots_refusal(roots, s, i, j);
     if n != 0 {
@@ -64,7 +64,7 @@ pub fn copy(roots: &mut [u64], s: u64, i: u64, j: u64) -> Answer
 // Slot i of stack s becomes nil.
 pub fn clear(roots: &mut [u64], s: u64, i: u64) -> Answer
     requires { Roots roots.old }
-    ensures { DoesByRoots (λ h. clear h s i) roots result }
+    ensures { DoesByRoots (λ h. clear h s i) (exclusive roots) result }
 {
     let n = root_checks::slot_refusal(roots, s, i);
     if n != 0 {
@@ -78,7 +78,7 @@ pub fn clear(roots: &mut [u64], s: u64, i: u64) -> Answer
 // Slot i of stack s becomes global g.
 pub fn load_global(roots: &mut [u64], s: u64, i: u64, g: u64) -> Answer
     requires { Roots roots.old }
-    ensures { DoesByRoots (λ h. load_global h s i g) roots result }
+    ensures { DoesByRoots (λ h. load_global h s i g) (exclusive roots) result }
 {
     let n = root_checks::global_refusal(roots, s, i, g);
     if n != 0 {

@@ -3,7 +3,7 @@
 #![tactic(auto)]
 
 ghost use Rattle.model.specs.Calls.{does};
-ghost use Rattle.model.specs.Promises.{Does, Entered};
+ghost use Rattle.model.specs.Promises.{Does, Entered, exclusive};
 
 use model::{Answer, Call};
 
@@ -16,8 +16,8 @@ pub fn make(
     roots: &mut [u64],
     call: Call,
 ) -> Answer
-    requires { Entered call p arena table bits roots }
-    ensures { Does (λ h. does h call) p arena table bits roots result }
+    requires { Entered call p arena.old table.old bits.old roots.old }
+    ensures { Does (λ h. does h call) p (exclusive arena) (exclusive table) (exclusive bits) (exclusive roots) result }
 {
     let n = p as usize;
     match call {

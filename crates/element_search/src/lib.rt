@@ -4,7 +4,7 @@
 
 ghost use Rattle.std.specs.Prelude.{false, ◌≡◌, ◌<◌, ◌≤◌};
 ghost use Rattle.model.specs.Lent.{Mapped};
-ghost use Rattle.model.specs.Promises.{ByTables};
+ghost use Rattle.model.specs.Promises.{ByTables, shared};
 ghost use Rattle.element_search.specs.Free.{FreeIn, FreeBetween};
 
 use units::{Page, Word};
@@ -30,7 +30,7 @@ fn nothing() -> Free
 // the arena and the roots.
 fn free_in(p: usize, table: &[u32], bits: &[u64], kind: usize, s: Page) -> Free
     requires { Mapped p table.now bits.now × (s.0 < p) }
-    ensures { ByTables (λ h. FreeIn h kind s.0 result) p table bits }
+    ensures { ByTables (λ h. FreeIn h kind s.0 result) p (shared table) (shared bits) }
 {
     if !page_table::starts_span(table, s) {
         return nothing();
@@ -66,7 +66,7 @@ pub fn free_between(
     to: Page,
 ) -> Free
     requires { Mapped p table.now bits.now × (to.0 ≤ p) }
-    ensures { ByTables (λ h. FreeBetween h kind from.0 to.0 result) p table bits }
+    ensures { ByTables (λ h. FreeBetween h kind from.0 to.0 result) p (shared table) (shared bits) }
 {
     let end = to.0;
     let mut s = from.0;

@@ -5,7 +5,7 @@
 
 ghost use Rattle.std.specs.Prelude.{◌≡◌};
 ghost use Rattle.model.specs.Calls.{asks_audit, entry_refusal};
-ghost use Rattle.model.specs.Promises.{found, Makes};
+ghost use Rattle.model.specs.Promises.{found, Makes, exclusive, shared};
 
 use model::{Answer, Call};
 
@@ -21,7 +21,7 @@ fn asks_audit(call: Call) -> bool
 
 // The entry check of a call: the refusal that comes before anything that it does, or 0.
 fn entry(p: u64, arena: &[u64], table: &[u32], bits: &[u64], roots: &[u64], call: Call) -> u64
-    ensures { result ≡ entry_refusal (found p arena table bits roots) call }
+    ensures { result ≡ entry_refusal (found p (shared arena) (shared table) (shared bits) (shared roots)) call }
 {
     if asks_audit(call) {
         return audit::entry(p, arena, table, bits, roots);
@@ -38,7 +38,7 @@ pub fn make(
     roots: &mut [u64],
     call: Call,
 ) -> Answer
-    ensures { Makes call p arena table bits roots result }
+    ensures { Makes call p (exclusive arena) (exclusive table) (exclusive bits) (exclusive roots) result }
 {
     let refusal = entry(p, arena, table, bits, roots, call);
     if refusal != 0 {

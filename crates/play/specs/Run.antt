@@ -21,7 +21,7 @@ pub record ProgramMemory (a t b s o : List ℕ) : Type 0 where
 
 -- .. as it is lent
 abbrev pub LentMemory : Borrowed → Borrowed → Borrowed → Borrowed → Borrowed → Type 0
-LentMemory arena table bits roots out = ProgramMemory arena.now table.now bits.now roots.now out.now
+LentMemory arena table bits roots out = ProgramMemory arena table bits roots out
 
 -- how far the run is lies within that memory, and within the line under way
 pub record InRange (r : Progress) : Type 0 where

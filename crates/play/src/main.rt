@@ -45,7 +45,7 @@ fn play_first(
     line: &[u8],
     at: usize,
 ) -> Progress
-    requires lent_memory { LentMemory arena table bits roots out }
+    requires lent_memory { LentMemory arena.old table.old bits.old roots.old out.old }
     requires longest_answer_bound { at + longest_answer ≤ block_bytes }
     ensures { InRange result }
 {
@@ -84,7 +84,7 @@ fn play_later(
     number: u64,
     at: usize,
 ) -> Progress
-    requires lent_memory { LentMemory arena table bits roots out }
+    requires lent_memory { LentMemory arena.old table.old bits.old roots.old out.old }
     requires p_le_most_pages { (p ≤ most_pages) × (at + longest_answer ≤ block_bytes) }
     ensures { InRange result }
 {
@@ -134,7 +134,7 @@ fn play_line(
     line: &[u8],
     run: Progress,
 ) -> Progress
-    requires lent_memory { LentMemory arena table bits roots out }
+    requires lent_memory { LentMemory arena.old table.old bits.old roots.old out.old }
     requires in_range { InRange run }
     ensures { InRange result }
 {
@@ -197,7 +197,7 @@ fn feed(
     block: &[u8],
     from: Progress,
 ) -> Progress
-    requires lent_memory { LentMemory arena table bits roots out }
+    requires lent_memory { LentMemory arena.old table.old bits.old roots.old out.old }
     requires in_range { InRange from × (length line.old ≡ longest_line) }
     ensures { InRange result }
 {

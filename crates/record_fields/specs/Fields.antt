@@ -26,7 +26,7 @@ TellsIn h s i j f x = Tells (pointer_refusal h s i j f) (number_refusal_beside h
 
 -- Contracts over what is lent, for every content of what is not.
 abbrev pub FieldOf : ℕ → Buffer → Buffer → ℕ → ℕ → Field → Type 0
-FieldOf p table bits w f x = (a r : List ℕ) → TellsOf (lent p a table.entry.now bits.entry.now r) w f x
+FieldOf p table bits w f x = (a r : List ℕ) → TellsOf (lent p a table.entry bits.entry r) w f x
 
 abbrev pub Finds : ℕ → Buffer → Buffer → Buffer → ℕ → ℕ → ℕ → ℕ → Field → Type 0
 Finds p table bits roots s i j f x = (a : List ℕ) → TellsIn (found_with a p table bits roots) s i j f x

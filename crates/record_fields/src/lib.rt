@@ -9,7 +9,7 @@ ghost use Rattle.model.specs.Memory.{nil};
 ghost use Rattle.model.specs.Answers.{nil_slot, ◌given◌};
 ghost use Rattle.model.specs.Facts.{Element};
 ghost use Rattle.model.specs.Lent.{Consistent};
-ghost use Rattle.model.specs.Promises.{AuditedTables};
+ghost use Rattle.model.specs.Promises.{AuditedTables, shared};
 ghost use Rattle.record_fields.specs.Fields.{FieldOf, Finds};
 
 use units::{Address, Word};
@@ -25,7 +25,7 @@ pub enum Field {
 // Field f of the record at word w.
 fn field_of(p: usize, table: &[u32], bits: &[u64], w: Word, f: u64) -> Field
     requires { Consistent p table.now bits.now × Element table.now w.0 }
-    ensures { FieldOf p table bits w.0 f result }
+    ensures { FieldOf p (shared table) (shared bits) w.0 f result }
 {
     let first = w.0;
     let field = f as usize;
@@ -58,8 +58,8 @@ pub fn find(
     j: u64,
     f: u64,
 ) -> Field
-    requires { AuditedTables p table bits roots }
-    ensures { Finds p table bits roots s i j f result }
+    requires { AuditedTables p table.now bits.now roots.now }
+    ensures { Finds p (shared table) (shared bits) (shared roots) s i j f result }
 {
     let place = root_checks::slot_refusal(roots, s, j);
     let other = root_checks::no_slot(i);

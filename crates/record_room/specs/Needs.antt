@@ -12,7 +12,7 @@ use Rattle.record_room.specs.declared.RecordPlace.{RecordPlace}
 
 -- the heap that a function leaves, with whatever arena
 abbrev pub left_with : List ℕ → ℕ → Buffer → Buffer → Buffer → Heap
-left_with a p table bits roots = lent p a table.exit.now bits.exit.now roots.exit.now
+left_with a p table bits roots = lent p a table.exit bits.exit roots.exit
 
 -- what the search has found on the heap g, swept for a record of this kind, whose new span has n pages: the refusal that is due; without one the
 -- record's first word, and whether its span is to be made; and the page table and the bitmaps are those of g

@@ -4,7 +4,7 @@
 
 ghost use Rattle.std.specs.Prelude.{◌≡◌, ◌<◌};
 ghost use Rattle.model.specs.Checks.{size_refusal};
-ghost use Rattle.model.specs.Promises.{AuditedTables};
+ghost use Rattle.model.specs.Promises.{AuditedTables, exclusive, shared};
 ghost use Rattle.model.specs.Lent.{Told};
 ghost use Rattle.room_sweeps.specs.Needs.{LentAudited, SweepsKind, SweepsPages};
 ghost use Rattle.record_room.specs.Needs.{FindsPlace, ChoosesPlace};
@@ -55,7 +55,7 @@ fn refused(number: u64, shape: Shape) -> RecordPlace
 // span is unswept.
 fn element_for(p: usize, table: &mut [u32], bits: &mut [u64], swept: bool, kind: usize) -> Free
     requires { LentAudited p table.old bits.old × Told swept table.old }
-    ensures { SweepsKind kind p table bits result }
+    ensures { SweepsKind kind p (exclusive table) (exclusive bits) result }
 {
     let free = element_search::free_between(p, table, bits, kind, Page(0), Page(p));
     if free.found {
@@ -71,7 +71,7 @@ fn element_for(p: usize, table: &mut [u32], bits: &mut [u64], swept: bool, kind:
 // spans return that are swept for it. `swept` says that no span is unswept.
 fn pages_for(p: usize, table: &mut [u32], bits: &mut [u64], swept: bool, n: usize) -> Page
     requires { LentAudited p table.old bits.old × Told swept table.old × (0 < n) }
-    ensures { SweepsPages n p table bits result }
+    ensures { SweepsPages n p (exclusive table) (exclusive bits) result }
 {
     let page = page_runs::best_run(p, table, n);
     if page.0 < p {
@@ -87,8 +87,8 @@ fn pages_for(p: usize, table: &mut [u32], bits: &mut [u64], swept: bool, n: usiz
 // of the lowest swept span of its kind that has one, else the first word of the best run of pages.
 // Outside the sweep phase no span is unswept.
 fn find(p: usize, table: &mut [u32], bits: &mut [u64], roots: &[u64], shape: Shape) -> RecordPlace
-    requires { AuditedTables p table bits roots × (0 < shape.pages) }
-    ensures { FindsPlace shape p table bits roots result }
+    requires { AuditedTables p table.old bits.old roots.now × (0 < shape.pages) }
+    ensures { FindsPlace shape p (exclusive table) (exclusive bits) (shared roots) result }
 {
     let swept = roots[units::PHASE] != units::SWEEP;
     let free = element_for(p, table, bits, swept, shape.kind as usize);
@@ -125,8 +125,8 @@ pub fn choose(
     size: u64,
     pointers: u64,
 ) -> RecordPlace
-    requires { AuditedTables p table bits roots }
-    ensures { ChoosesPlace s i size pointers p table bits roots result }
+    requires { AuditedTables p table.old bits.old roots.now }
+    ensures { ChoosesPlace s i size pointers p (exclusive table) (exclusive bits) (shared roots) result }
 {
     let shape = classes::shape_of(size, pointers);
     let no_slot = root_checks::slot_refusal(roots, s, i);

@@ -35,7 +35,7 @@ pub record KindTurned (kind s : ℕ) (h : Heap) (r : Free) (t b : List ℕ) : Ty
 
 abbrev pub KindTurn : ℕ → ℕ → ℕ → Buffer → Buffer → Free → Type 0
 KindTurn kind s p table bits r =
-    (a o : List ℕ) → KindTurned kind s (lent p a table.entry.now bits.entry.now o) r table.exit.now bits.exit.now
+    (a o : List ℕ) → KindTurned kind s (lent p a table.entry bits.entry o) r table.exit bits.exit
 
 -- .. any span at page s, and the best run of n pages where its own were returned
 pub record PagesTurned (n s : ℕ) (h : Heap) (r : ℕ) (t b : List ℕ) : Type 0 where
@@ -44,8 +44,8 @@ pub record PagesTurned (n s : ℕ) (h : Heap) (r : ℕ) (t b : List ℕ) : Type 
 
 abbrev pub PageTurn : ℕ → ℕ → ℕ → Buffer → Buffer → Page → Type 0
 PageTurn n s p table bits r =
-    (a o : List ℕ) → let h = lent p a table.entry.now bits.entry.now o in
-    Audited h → PagesTurned n s h r.0 table.exit.now bits.exit.now
+    (a o : List ℕ) → let h = lent p a table.entry bits.entry o in
+    Audited h → PagesTurned n s h r.0 table.exit bits.exit
 
 -- all of them: the heap is the one that the sweeps for an element leave, and its lowest free element is found
 pub record KindDone (kind : ℕ) (h h' : Heap) (r : Free) : Type 0 where
@@ -54,8 +54,8 @@ pub record KindDone (kind : ℕ) (h h' : Heap) (r : Free) : Type 0 where
 
 abbrev pub SweepsKind : ℕ → ℕ → Buffer → Buffer → Free → Type 0
 SweepsKind kind p table bits r =
-    (a o : List ℕ) → let h = lent p a table.entry.now bits.entry.now o in
-    Audited h → KindDone kind h (lent p a table.exit.now bits.exit.now o) r
+    (a o : List ℕ) → let h = lent p a table.entry bits.entry o in
+    Audited h → KindDone kind h (lent p a table.exit bits.exit o) r
 
 -- .. or the one that the sweeps for pages leave, and its best run
 pub record PagesDone (n : ℕ) (h h' : Heap) (r : ℕ) : Type 0 where
@@ -64,5 +64,5 @@ pub record PagesDone (n : ℕ) (h h' : Heap) (r : ℕ) : Type 0 where
 
 abbrev pub SweepsPages : ℕ → ℕ → Buffer → Buffer → Page → Type 0
 SweepsPages n p table bits r =
-    (a o : List ℕ) → let h = lent p a table.entry.now bits.entry.now o in
-    Audited h → PagesDone n h (lent p a table.exit.now bits.exit.now o) r.0
+    (a o : List ℕ) → let h = lent p a table.entry bits.entry o in
+    Audited h → PagesDone n h (lent p a table.exit bits.exit o) r.0

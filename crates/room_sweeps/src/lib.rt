@@ -7,6 +7,7 @@
 ghost use Rattle.std.specs.Prelude.{false, ◌≡◌, ◌<◌};
 ghost use Rattle.room_sweeps.specs.Needs.{LentAudited, NoElement, NoRun};
 ghost use Rattle.room_sweeps.specs.Needs.{KindTurn, PageTurn, SweepsKind, SweepsPages};
+ghost use Rattle.model.specs.Promises.{exclusive};
 
 use element_search::Free;
 use units::{Page, Word};
@@ -25,7 +26,7 @@ fn nothing() -> Free
 // that is returned whole has none.
 fn sweep_of_kind(p: usize, table: &mut [u32], bits: &mut [u64], kind: usize, s: Page) -> Free
     requires { LentAudited p table.old bits.old × (s.0 < p) }
-    ensures { KindTurn kind s.0 p table bits result }
+    ensures { KindTurn kind s.0 p (exclusive table) (exclusive bits) result }
 {
     let next = page_entries::unswept_at(table, s);
     let found = next.found;
@@ -46,7 +47,7 @@ fn sweep_of_kind(p: usize, table: &mut [u32], bits: &mut [u64], kind: usize, s: 
 // element.
 pub fn sweep_kind(p: usize, table: &mut [u32], bits: &mut [u64], kind: usize) -> Free
     requires { LentAudited p table.old bits.old × NoElement kind p table.old bits.old }
-    ensures { SweepsKind kind p table bits result }
+    ensures { SweepsKind kind p (exclusive table) (exclusive bits) result }
 {
     let mut s = 0;
     while s < p {
@@ -64,7 +65,7 @@ pub fn sweep_kind(p: usize, table: &mut [u32], bits: &mut [u64], kind: usize) ->
 // run, or p. If its pages are returned, the run around them alone can have become long enough.
 fn sweep_any(p: usize, table: &mut [u32], bits: &mut [u64], n: usize, s: Page) -> Page
     requires { LentAudited p table.old bits.old × (s.0 < p) × (0 < n) × NoRun n p table.old }
-    ensures { PageTurn n s.0 p table bits result }
+    ensures { PageTurn n s.0 p (exclusive table) (exclusive bits) result }
 {
     let next = page_entries::unswept_at(table, s);
     let found = next.found;
@@ -82,7 +83,7 @@ fn sweep_any(p: usize, table: &mut [u32], bits: &mut [u64], n: usize, s: Page) -
 // if there is none after all of them.
 pub fn sweep_pages(p: usize, table: &mut [u32], bits: &mut [u64], n: usize) -> Page
     requires { LentAudited p table.old bits.old × NoRun n p table.old × (0 < n) }
-    ensures { SweepsPages n p table bits result }
+    ensures { SweepsPages n p (exclusive table) (exclusive bits) result }
 {
     let mut s = 0;
     while s < p {

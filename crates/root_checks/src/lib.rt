@@ -9,7 +9,7 @@ ghost use Rattle.model.specs.Memory.{stack_count, slot_count, slot_at};
 ghost use Rattle.model.specs.Checks.{phase_refusal, open_refusal, closed_refusal, slot_number_refusal};
 ghost use Rattle.model.specs.Checks.{slot_refusal, slots_refusal, global_refusal};
 ghost use Rattle.model.specs.Lent.{Roots};
-ghost use Rattle.model.specs.Promises.{GivesByRoots};
+ghost use Rattle.model.specs.Promises.{GivesByRoots, shared};
 
 use units::{BAD_SLOT, GLOBALS, SLOTS};
 
@@ -24,7 +24,7 @@ pub fn slot_at(s: u64, i: u64) -> usize
 // The refusal of a call that is for this phase alone.
 pub fn not_in(roots: &[u64], phase: u64) -> u64
     requires { Roots roots.now }
-    ensures { GivesByRoots (λ h. phase_refusal h phase) roots result }
+    ensures { GivesByRoots (λ h. phase_refusal h phase) (shared roots) result }
 {
     if roots[units::PHASE] != phase {
         return units::WRONG_PHASE;
@@ -35,7 +35,7 @@ pub fn not_in(roots: &[u64], phase: u64) -> u64
 // The refusal of a call on a stack that must be open.
 pub fn not_open(roots: &[u64], s: u64) -> u64
     requires { Roots roots.now }
-    ensures { GivesByRoots (λ h. open_refusal h s) roots result }
+    ensures { GivesByRoots (λ h. open_refusal h s) (shared roots) result }
 {
     let stack = s as usize;
     if units::STACKS <= stack {
@@ -50,7 +50,7 @@ pub fn not_open(roots: &[u64], s: u64) -> u64
 // The refusal of a call on a stack that must be closed.
 pub fn not_closed(roots: &[u64], s: u64) -> u64
     requires { Roots roots.now }
-    ensures { GivesByRoots (λ h. closed_refusal h s) roots result }
+    ensures { GivesByRoots (λ h. closed_refusal h s) (shared roots) result }
 {
     let stack = s as usize;
     if units::STACKS <= stack {
@@ -72,7 +72,7 @@ pub fn no_slot(i: u64) -> u64
 // The refusal of a call on slot i of stack s.
 pub fn slot_refusal(roots: &[u64], s: u64, i: u64) -> u64
     requires { Roots roots.now }
-    ensures { GivesByRoots (λ h. slot_refusal h s i) roots result }
+    ensures { GivesByRoots (λ h. slot_refusal h s i) (shared roots) result }
 {
     let stack = not_open(roots, s);
     let number = no_slot(i);
@@ -85,7 +85,7 @@ pub fn slot_refusal(roots: &[u64], s: u64, i: u64) -> u64
 // The refusal of a call on slots i and j of stack s.
 pub fn slots_refusal(roots: &[u64], s: u64, i: u64, j: u64) -> u64
     requires { Roots roots.now }
-    ensures { GivesByRoots (λ h. slots_refusal h s i j) roots result }
+    ensures { GivesByRoots (λ h. slots_refusal h s i j) (shared roots) result }
 {
     let first = slot_refusal(roots, s, i);
     let second = no_slot(j);
@@ -98,7 +98,7 @@ pub fn slots_refusal(roots: &[u64], s: u64, i: u64, j: u64) -> u64
 // The refusal of a call on slot i of stack s and global g.
 pub fn global_refusal(roots: &[u64], s: u64, i: u64, g: u64) -> u64
     requires { Roots roots.now }
-    ensures { GivesByRoots (λ h. global_refusal h s i g) roots result }
+    ensures { GivesByRoots (λ h. global_refusal h s i g) (shared roots) result }
 {
     let slot = slot_refusal(roots, s, i);
     if slot != 0 {

@@ -41,15 +41,15 @@ pub record ShadesAll (p : ℕ) (t : List ℕ) (n : ℕ) (value : ℕ → ℕ) (b
 
 -- Contracts over what is lent: a store's values and a slice's, as what is required ..
 abbrev pub LentStore : ℕ → Borrowed → Borrowed → Borrowed → ℕ → ℕ → Type 0
-LentStore p table bits roots old new = Stored p table.now bits.now roots.now old new
+LentStore p table bits roots old new = Stored p table bits roots old new
 
 abbrev pub LentSlice : ℕ → Borrowed → Borrowed → Borrowed → ℕ → ℕ → Type 0
-LentSlice p table bits words from n = ShadableSlice p table.now bits.now words.now from n
+LentSlice p table bits words from n = ShadableSlice p table bits words from n
 
 -- .. and what is promised: the bitmaps that a function of the heap gives, for every arena; the slice's n values shaded
 abbrev pub LeavesBits : (Heap → List ℕ) → ℕ → Buffer → Buffer → Buffer → Type 0
-LeavesBits f p table bits roots = (a : List ℕ) → bits.exit.now ≡ f (found_with a p table bits roots)
+LeavesBits f p table bits roots = (a : List ℕ) → bits.exit ≡ f (found_with a p table bits roots)
 
 abbrev pub ShadesSlice : ℕ → Buffer → Buffer → Buffer → ℕ → ℕ → ℕ → Type 0
 ShadesSlice p table bits words from n r =
-    ShadesAll p table.entry.now n (λ i. get_or words.entry.now (from + i) 0) bits.entry.now r bits.exit.now
+    ShadesAll p table.entry n (λ i. get_or words.entry (from + i) 0) bits.entry r bits.exit

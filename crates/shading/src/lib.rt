@@ -5,6 +5,7 @@
 
 ghost use Rattle.model.specs.Shading.{barrier};
 ghost use Rattle.shading.specs.Needs.{Shadable, LentStore, LentSlice, Shades, ShadesSlice, LeavesBits};
+ghost use Rattle.model.specs.Promises.{exclusive, shared};
 
 use units::Address;
 
@@ -35,8 +36,8 @@ fn shade(p: usize, table: &[u32], bits: &mut [u64], v: Address) -> u64
 
 // The barrier of a store, in the mark phase: the old value is shaded, then the new.
 pub fn barrier(p: usize, table: &[u32], bits: &mut [u64], roots: &[u64], old: Address, new: Address)
-    requires { LentStore p table bits roots old.0 new.0 }
-    ensures { LeavesBits (λ h. barrier h old.0 new.0) p table bits roots }
+    requires { LentStore p table.now bits.old roots.now old.0 new.0 }
+    ensures { LeavesBits (λ h. barrier h old.0 new.0) p (shared table) (exclusive bits) (shared roots) }
 {
     if roots[units::PHASE] != units::MARK {
         return;
@@ -54,8 +55,8 @@ pub fn shade_slice(
     from: usize,
     n: usize,
 ) -> u64
-    requires { LentSlice p table bits words from n }
-    ensures { ShadesSlice p table bits words from n result }
+    requires { LentSlice p table.now bits.old words.now from n }
+    ensures { ShadesSlice p (shared table) (exclusive bits) (shared words) from n result }
 {
     let mut k = 0;
     let mut count: u64 = 0;

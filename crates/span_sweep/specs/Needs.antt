@@ -24,7 +24,7 @@ pub record SpanRead (p : ℕ) (t b : List ℕ) (span : Span) : Type 0 where
 
 -- What is lent the bitmaps and given a span is not lent the page table: it asks for some table that the span is read from
 abbrev pub LentSpan : ℕ → Borrowed → Span → Type 0
-LentSpan p bits span = (t : List ℕ) × SpanRead p t bits.now span
+LentSpan p bits span = (t : List ℕ) × SpanRead p t bits span
 
 -- a pointer bit of the span at page s stays where the element that it lies in is marked
 abbrev pub cleared_bits : ℕ → List ℕ → List ℕ → ℕ → List ℕ
@@ -34,7 +34,7 @@ cleared_bits p t b s =
 
 -- what is left of the bitmaps once they are cleared so, by any table that the span is read from
 abbrev pub ClearsFreed : ℕ → Buffer → Span → Type 0
-ClearsFreed p bits span = (t : List ℕ) → SpanRead p t bits.entry.now span → bits.exit.now ≡ cleared_bits p t bits.entry.now span.start.0
+ClearsFreed p bits span = (t : List ℕ) → SpanRead p t bits.entry span → bits.exit ≡ cleared_bits p t bits.entry span.start.0
 
 -- the sweep of the span at page s: the elements freed, the pages returned, the page table and the bitmaps afterwards
 pub record SweepsSpan (h : Heap) (s : ℕ) (r : SpanSwept) (t b : List ℕ) : Type 0 where
@@ -46,4 +46,4 @@ pub record SweepsSpan (h : Heap) (s : ℕ) (r : SpanSwept) (t b : List ℕ) : Ty
 -- .. of lent buffers, for every arena and all roots
 abbrev pub SweepsLentSpan : ℕ → Buffer → Buffer → ℕ → SpanSwept → Type 0
 SweepsLentSpan p table bits s r =
-    (a roots : List ℕ) → SweepsSpan (lent p a table.entry.now bits.entry.now roots) s r table.exit.now bits.exit.now
+    (a roots : List ℕ) → SweepsSpan (lent p a table.entry bits.entry roots) s r table.exit bits.exit

@@ -5,14 +5,15 @@
 #![tactic(auto)]
 
 ghost use Rattle.span_sweep.specs.Needs.{SpanRead, SweepsLentSpan, LentSpan, ClearsFreed};
+ghost use Rattle.model.specs.Promises.{exclusive};
 
 use page_table::Span;
 use units::{MARKED_PART, PAGE_BLOCKS, Page, Word};
 
 // Clears the pointer bits of the freed elements of a span. A noscan span has none.
 fn clear_freed(p: usize, bits: &mut [u64], span: Span)
-    requires { LentSpan p bits span }
-    ensures { ClearsFreed p bits span }
+    requires { LentSpan p bits.old span }
+    ensures { ClearsFreed p (exclusive bits) span }
 {
     let scan = span.scan;
     if !scan {
@@ -46,7 +47,7 @@ pub struct SpanSwept {
 // tell it. If nothing is left the pages become free.
 pub fn sweep(p: usize, table: &mut [u32], bits: &mut [u64], span: Span) -> SpanSwept
     requires { SpanRead p table.old bits.old span }
-    ensures { SweepsLentSpan p table bits span.start.0 result }
+    ensures { SweepsLentSpan p (exclusive table) (exclusive bits) span.start.0 result }
 {
     let n = span.pages;
     let first = span.start.first_block();

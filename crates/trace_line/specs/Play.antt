@@ -76,5 +76,5 @@ pub record Plays (o : Played) (at : ℕ) (entry exit : List ℕ) (r : LineResult
 -- .. of the buffers that it is lent
 abbrev pub PlaysLine : (Heap → Played) → ℕ → Buffer → Buffer → Buffer → Buffer → Buffer → ℕ → LineResult → Type 0
 PlaysLine work p arena table bits roots out at r =
-    Plays (work (found p arena table bits roots)) at out.entry.now out.exit.now r arena.exit.now table.exit.now bits.exit.now
-    roots.exit.now
+    Plays (work (found p arena table bits roots)) at out.entry out.exit r arena.exit table.exit bits.exit
+    roots.exit

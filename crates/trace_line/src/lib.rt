@@ -7,6 +7,7 @@ ghost use Rattle.model.specs.Answers.{accepted};
 ghost use Rattle.trace_read.specs.Lines.{read_line};
 ghost use Rattle.trace_write.specs.Text.{longest_answer};
 ghost use Rattle.trace_line.specs.Play.{most_pages, played_setup, first, later, pages_of, PlaysLine};
+ghost use Rattle.model.specs.Promises.{exclusive};
 
 use model::{Answer, Call};
 use trace_read::Line;
@@ -56,7 +57,7 @@ fn set_up(
     at: usize,
 ) -> LineResult
     requires { at + longest_answer ≤ length out.old }
-    ensures { PlaysLine (played_setup p) 0 arena table bits roots out at result }
+    ensures { PlaysLine (played_setup p) 0 (exclusive arena) (exclusive table) (exclusive bits) (exclusive roots) (exclusive out) at result }
 {
     if p == 0 {
         let e = trace_write::write_answer(out, at, Answer::Refused(units::BAD_BUFFERS));
@@ -83,7 +84,7 @@ pub fn first_line(
     at: usize,
 ) -> LineResult
     requires { at + longest_answer ≤ length out.old }
-    ensures { PlaysLine (first (read_line line.now)) 0 arena table bits roots out at result }
+    ensures { PlaysLine (first (read_line line.now)) 0 (exclusive arena) (exclusive table) (exclusive bits) (exclusive roots) (exclusive out) at result }
 {
     let Line::Setup(p) = trace_read::read(line) else {
         let e = trace_write::write_bad(out, at, 1);
@@ -105,7 +106,7 @@ pub fn later_line(
     at: usize,
 ) -> LineResult
     requires { at + longest_answer ≤ length out.old }
-    ensures { PlaysLine (later (read_line line.now) number) p arena table bits roots out at result }
+    ensures { PlaysLine (later (read_line line.now) number) p (exclusive arena) (exclusive table) (exclusive bits) (exclusive roots) (exclusive out) at result }
 {
     let Line::Call(call) = trace_read::read(line) else {
         let e = trace_write::write_bad(out, at, number);

@@ -40,4 +40,4 @@ Short TooLong = Unit {0}
 -- what a block gives, and the line under way with its bytes, of the buffers that a function is lent
 abbrev pub TakesBytes : Buffer → ℕ → Buffer → ℕ → Taken → Type 0
 TakesBytes line used block from r =
-    (r ≡ taken used block.entry.now from) × (line.exit.now ≡ joined line.entry.now used block.entry.now from)
+    (r ≡ taken used block.entry from) × (line.exit ≡ joined line.entry used block.entry from)

@@ -4,6 +4,7 @@
 #![tactic(auto)]
 
 ghost use Rattle.trace_split.specs.Split.{UnderWay, TakesBytes};
+ghost use Rattle.model.specs.Promises.{exclusive, shared};
 
 use trace_read::LONGEST;
 
@@ -21,7 +22,7 @@ pub enum Taken {
 // The bytes of the block from `from` on join the `used` bytes of the line under way.
 pub fn take(line: &mut [u8], used: usize, block: &[u8], from: usize) -> Taken
     requires { UnderWay line.old used block.now from }
-    ensures { TakesBytes line used block from result }
+    ensures { TakesBytes (exclusive line) used (shared block) from result }
 {
     let mut at = used;
     let mut i = from;

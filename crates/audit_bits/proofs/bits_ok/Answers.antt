@@ -24,9 +24,9 @@ pub loop-g-preserved-else-not-free_page_ok : goal.loop-g-preserved-else-not-free
 loop-g-preserved-else-not-free_page_ok c =
     let ahead : let a = c.args in NextStretch a.p a.table.now c.loop-g.g = next c.requires.0.spans c.loop-g.g c.loop-g-test.true c.loop-g.invariant.1 in
     let onward : let a = c.args in let g = c.loop-g.g in
-        (n : ℕ) → n ≡ stretch a.table.now g → GoodStretch a.p a.phase a.table.now a.bits.now g → (((g + n) ≤ a.p) × Edge a.table.now (g + n) × GoodWords a.p a.phase a.table.now a.bits.now 0 (page_words * (g + n)) × ((s : ℕ) → s < (g + n) → Used a.p a.table.now a.bits.now s)) =
+    (n : ℕ) → n ≡ stretch a.table.now g → GoodStretch a.p a.phase a.table.now a.bits.now g → (((g + n) ≤ a.p) × Edge a.table.now (g + n) × GoodWords a.p a.phase a.table.now a.bits.now 0 (page_words * (g + n)) × ((s : ℕ) → s < (g + n) → Used a.p a.table.now a.bits.now s)) =
     λ n e G. let N = ahead in
-        rw e (N.inside, N.edge, good_more c.loop-g.g _ c.loop-g.invariant.2 G.words, spans_more c.requires.0.spans _ c.loop-g.g c.loop-g.invariant.1 c.loop-g.invariant.3 G.used) in
+    rw e (N.inside, N.edge, good_more c.loop-g.g _ c.loop-g.invariant.2 G.words, spans_more c.requires.0.spans _ c.loop-g.g c.loop-g.invariant.1 c.loop-g.invariant.3 G.used) in
     let is_free_lem : owner c.args.table.now c.loop-g.g ≡ 0 = omega (arith, c.owner.ensures) in
     let asked = c.free_page_ok in
     let z = is_free_lem in
@@ -35,34 +35,34 @@ loop-g-preserved-else-not-free_page_ok c =
 pub overflow_add-g-else-owner-eq0 : goal.overflow_add-g-else-owner-eq0
 overflow_add-g-else-owner-eq0 c =
     let ahead : let a = c.args in NextStretch a.p a.table.now c.loop-g.g = next c.requires.0.spans c.loop-g.g c.loop-g-test.true c.loop-g.invariant.1 in
-    let first : IsSpan c.args.table.now c.loop-g.g =     begins c.requires.0.spans c.loop-g.g c.loop-g.invariant.1 (omega (arith, c.owner.ensures)) in
+    let first : IsSpan c.args.table.now c.loop-g.g = begins c.requires.0.spans c.loop-g.g c.loop-g.invariant.1 (omega (arith, c.owner.ensures)) in
     omega (arith, span_pages c.span_at-span.ensures first, ahead.inside, c.requires.0.few)
 
 pub span_ok-requires : goal.span_ok-requires
 span_ok-requires c =
-    let first : IsSpan c.args.table.now c.loop-g.g =     begins c.requires.0.spans c.loop-g.g c.loop-g.invariant.1 (omega (arith, c.owner.ensures)) in
+    let first : IsSpan c.args.table.now c.loop-g.g = begins c.requires.0.spans c.loop-g.g c.loop-g.invariant.1 (omega (arith, c.owner.ensures)) in
     (search rules, read_fits c.span_at-span.ensures c.requires.0.spans first)
 
 pub returns-then-not-span_ok : goal.returns-then-not-span_ok
 returns-then-not-span_ok c =
-    let first : IsSpan c.args.table.now c.loop-g.g =     begins c.requires.0.spans c.loop-g.g c.loop-g.invariant.1 (omega (arith, c.owner.ensures)) in
+    let first : IsSpan c.args.table.now c.loop-g.g = begins c.requires.0.spans c.loop-g.g c.loop-g.invariant.1 (omega (arith, c.owner.ensures)) in
     let asked = c.span_ok in
     (λ x. absurd x, λ B. no asked.result asked.ensures c.if-not-span_ok.true (stretch_kept c.span_at-span.ensures c.requires.0.spans c.requires.1.legal first (facts_words B.rules B.phases) (B.occupied _)))
 
 pub loop-g-smaller : goal.loop-g-smaller
 loop-g-smaller c =
     let ahead : let a = c.args in NextStretch a.p a.table.now c.loop-g.g = next c.requires.0.spans c.loop-g.g c.loop-g-test.true c.loop-g.invariant.1 in
-    let first : IsSpan c.args.table.now c.loop-g.g =     begins c.requires.0.spans c.loop-g.g c.loop-g.invariant.1 (omega (arith, c.owner.ensures)) in
+    let first : IsSpan c.args.table.now c.loop-g.g = begins c.requires.0.spans c.loop-g.g c.loop-g.invariant.1 (omega (arith, c.owner.ensures)) in
     omega (arith, span_pages c.span_at-span.ensures first, ahead)
 
 pub loop-g-preserved : goal.loop-g-preserved
 loop-g-preserved c =
     let ahead : let a = c.args in NextStretch a.p a.table.now c.loop-g.g = next c.requires.0.spans c.loop-g.g c.loop-g-test.true c.loop-g.invariant.1 in
     let onward : let a = c.args in let g = c.loop-g.g in
-        (n : ℕ) → n ≡ stretch a.table.now g → GoodStretch a.p a.phase a.table.now a.bits.now g → (((g + n) ≤ a.p) × Edge a.table.now (g + n) × GoodWords a.p a.phase a.table.now a.bits.now 0 (page_words * (g + n)) × ((s : ℕ) → s < (g + n) → Used a.p a.table.now a.bits.now s)) =
+    (n : ℕ) → n ≡ stretch a.table.now g → GoodStretch a.p a.phase a.table.now a.bits.now g → (((g + n) ≤ a.p) × Edge a.table.now (g + n) × GoodWords a.p a.phase a.table.now a.bits.now 0 (page_words * (g + n)) × ((s : ℕ) → s < (g + n) → Used a.p a.table.now a.bits.now s)) =
     λ n e G. let N = ahead in
-        rw e (N.inside, N.edge, good_more c.loop-g.g _ c.loop-g.invariant.2 G.words, spans_more c.requires.0.spans _ c.loop-g.g c.loop-g.invariant.1 c.loop-g.invariant.3 G.used) in
-    let first : IsSpan c.args.table.now c.loop-g.g =     begins c.requires.0.spans c.loop-g.g c.loop-g.invariant.1 (omega (arith, c.owner.ensures)) in
+    rw e (N.inside, N.edge, good_more c.loop-g.g _ c.loop-g.invariant.2 G.words, spans_more c.requires.0.spans _ c.loop-g.g c.loop-g.invariant.1 c.loop-g.invariant.3 G.used) in
+    let first : IsSpan c.args.table.now c.loop-g.g = begins c.requires.0.spans c.loop-g.g c.loop-g.invariant.1 (omega (arith, c.owner.ensures)) in
     let asked = c.span_ok in
     let R = c.span_at-span.ensures in
     let i = first in

@@ -18,17 +18,17 @@ pub returns-then-not-ok : goal.returns-then-not-ok
 returns-then-not-ok c =
     let first_word_lem : page_words * c.args.span.start.0 ≡ word_bits * c.first_block-first.result = omega (arith, c.first_block-first.ensures) in
     let tested : let a = c.args in
-        c.block_ok-ok.result ≡ all_below word_bits (λ j. word_rule a.p a.bits.now (word_bits * c.first_block-first.result) a.size a.held a.allowed (word_bits * c.loop-k.k + j)) =
-        let a = c.args in
-        block_words a.p a.bits.now c.first_block-first.result a.size a.held a.allowed c.starts-mask.result c.starts-mask.ensures c.loop-k.invariant.1 c.block_ok-ok.ensures in
+    c.block_ok-ok.result ≡ all_below word_bits (λ j. word_rule a.p a.bits.now (word_bits * c.first_block-first.result) a.size a.held a.allowed (word_bits * c.loop-k.k + j)) =
+    let a = c.args in
+    block_words a.p a.bits.now c.first_block-first.result a.size a.held a.allowed c.starts-mask.result c.starts-mask.ensures c.loop-k.invariant.1 c.block_ok-ok.ensures in
     rw first_word_lem (fails _ _ _ (omega arith) tested c.if-not-ok.true)
 
 pub loop-k-preserved : goal.loop-k-preserved
 loop-k-preserved c =
     let tested : let a = c.args in
-        c.block_ok-ok.result ≡ all_below word_bits (λ j. word_rule a.p a.bits.now (word_bits * c.first_block-first.result) a.size a.held a.allowed (word_bits * c.loop-k.k + j)) =
-        let a = c.args in
-        block_words a.p a.bits.now c.first_block-first.result a.size a.held a.allowed c.starts-mask.result c.starts-mask.ensures c.loop-k.invariant.1 c.block_ok-ok.ensures in
+    c.block_ok-ok.result ≡ all_below word_bits (λ j. word_rule a.p a.bits.now (word_bits * c.first_block-first.result) a.size a.held a.allowed (word_bits * c.loop-k.k + j)) =
+    let a = c.args in
+    block_words a.p a.bits.now c.first_block-first.result a.size a.held a.allowed c.starts-mask.result c.starts-mask.ensures c.loop-k.invariant.1 c.block_ok-ok.ensures in
     let a = c.args in
     let n = c.next_start-off in (
       search rules,

@@ -11,7 +11,7 @@ use Rattle.audit_bits.proofs.Turns.{Stands, stands_first, stands_next, block_wor
 use Rattle.audit_bits.proofs.blocks_ok.Given as goal
 
 abbrev pub invariant-loop-k : goal.invariant-loop-k
-invariant-loop-k l =     (l.k ≤ page_blocks * l.count) × Stands l.p l.bits l.first l.size l.held l.allowed l.k l.off l.left l.before
+invariant-loop-k l = (l.k ≤ page_blocks * l.count) × Stands l.p l.bits l.first l.size l.held l.allowed l.k l.off l.left l.before
 
 abbrev pub decreases-loop-k : goal.decreases-loop-k
 decreases-loop-k l = page_blocks * l.count - l.k

@@ -17,15 +17,15 @@ pub returns-then-not-empty : goal.returns-then-not-empty
 returns-then-not-empty c =
     let first_word_lem : page_words * c.args.g.0 ≡ word_bits * c.first_block-first.result = omega (arith, c.first_block-first.ensures) in
     let tested : let a = c.args in c.empty.result ≡ all_below word_bits (λ j. bare a.p a.bits.now (word_bits * c.first_block-first.result + (word_bits * c.loop-k.k + j))) =
-        let a = c.args in
-        c.empty.ensures ∙ block_from (bare a.p a.bits.now) c.first_block-first.result c.loop-k.k in
+    let a = c.args in
+    c.empty.ensures ∙ block_from (bare a.p a.bits.now) c.first_block-first.result c.loop-k.k in
     rw first_word_lem (fails _ _ page_blocks (omega arith) tested c.if-not-empty.true)
 
 pub loop-k-preserved : goal.loop-k-preserved
 loop-k-preserved c =
     let tested : let a = c.args in c.empty.result ≡ all_below word_bits (λ j. bare a.p a.bits.now (word_bits * c.first_block-first.result + (word_bits * c.loop-k.k + j))) =
-        let a = c.args in
-        c.empty.ensures ∙ block_from (bare a.p a.bits.now) c.first_block-first.result c.loop-k.k in
+    let a = c.args in
+    c.empty.ensures ∙ block_from (bare a.p a.bits.now) c.first_block-first.result c.loop-k.k in
     let a = c.args in
     (search rules, more (λ o. bare a.p a.bits.now (word_bits * c.first_block-first.result + o)) c.loop-k.k c.loop-k.invariant.1 tested c.if-not-empty.false)
 

@@ -37,22 +37,22 @@ returns-then-not-span_ok c =
 pub overflow_add-g-else-owner-eq0-2 : goal.overflow_add-g-else-owner-eq0-2
 overflow_add-g-else-owner-eq0-2 c =
     let good : let a = c.args in GoodSpan a.p a.phase a.table.now c.loop-g.g =
-        let asked = c.span_ok in
-        yes asked.result (own_span c.span_at-span.ensures (GoodSpan _ _ _) asked.result asked.ensures) c.if-not-span_ok.false in
+    let asked = c.span_ok in
+    yes asked.result (own_span c.span_at-span.ensures (GoodSpan _ _ _) asked.result asked.ensures) c.if-not-span_ok.false in
     omega (arith, c.span_at-span.ensures.pages, good.inside)
 
 pub loop-g-smaller : goal.loop-g-smaller
 loop-g-smaller c =
     let good : let a = c.args in GoodSpan a.p a.phase a.table.now c.loop-g.g =
-        let asked = c.span_ok in
-        yes asked.result (own_span c.span_at-span.ensures (GoodSpan _ _ _) asked.result asked.ensures) c.if-not-span_ok.false in
+    let asked = c.span_ok in
+    yes asked.result (own_span c.span_at-span.ensures (GoodSpan _ _ _) asked.result asked.ensures) c.if-not-span_ok.false in
     omega (arith, c.span_at-span.ensures.pages, good.inside, first_count good)
 
 pub loop-g-preserved : goal.loop-g-preserved
 loop-g-preserved c =
     let good : let a = c.args in GoodSpan a.p a.phase a.table.now c.loop-g.g =
-        let asked = c.span_ok in
-        yes asked.result (own_span c.span_at-span.ensures (GoodSpan _ _ _) asked.result asked.ensures) c.if-not-span_ok.false in
+    let asked = c.span_ok in
+    yes asked.result (own_span c.span_at-span.ensures (GoodSpan _ _ _) asked.result asked.ensures) c.if-not-span_ok.false in
     span_step _ _ _ _ c.loop-g.invariant c.loop-g-test.true (omega (arith, c.owner-owner.ensures)) good _ c.span_at-span.ensures.pages
 
 pub returns : goal.returns

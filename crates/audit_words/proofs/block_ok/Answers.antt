@@ -42,7 +42,7 @@ loop-left-smaller c =
     let l = c.loop-left in
     let some = c.loop-left-test.true in
     let z = low _ l.invariant.1 some in
-    rw (one_up (count_trailing_zeros 64 l.false) z) (omega (arith, higher _ l.invariant.1 some))
+    rw (one_up (count_trailing_zeros 64 l.left) z) (omega (arith, higher _ l.invariant.1 some))
 
 pub loop-left-preserved : goal.loop-left-preserved
 unfolding with_bit_of
@@ -50,7 +50,7 @@ loop-left-preserved c =
     let l = c.loop-left in
     let some = c.loop-left-test.true in
     let z = low _ l.invariant.1 some in
-    rw (one_up (count_trailing_zeros 64 l.false) z)
+    rw (one_up (count_trailing_zeros 64 l.left) z)
     (l.invariant.0, with_bit_fits _ false _ z l.invariant.1, taken_one _ _ _ _ _ _ _ l.invariant.1 some l.invariant.2 (rw l.invariant.0 at (yes c.is_reference.result c.is_reference.ensures c.if-not-is_reference.false)))
 
 pub returns : goal.returns

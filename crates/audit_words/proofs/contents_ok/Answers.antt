@@ -18,30 +18,30 @@ pub loop-g-preserved-then-owner-eq0 : goal.loop-g-preserved-then-owner-eq0
 loop-g-preserved-then-owner-eq0 c =
     let ahead : let a = c.args in NextStretch a.p a.table.now c.loop-g.g = next c.requires.0.consistent.spans c.loop-g.g c.loop-g-test.true c.loop-g.invariant.1 in
     let onward : let a = c.args in let g = c.loop-g.g in
-        (n : ℕ) → n ≡ stretch a.table.now g → (IsSpan a.table.now g → T (is_scan a.table.now g) → SpanContents a.p a.arena.now a.table.now a.bits.now g) →
-        (((g + n) ≤ a.p) × Edge a.table.now (g + n) × ((s : ℕ) → s < (g + n) → IsSpan a.table.now s → T (is_scan a.table.now s) → SpanContents a.p a.arena.now a.table.now a.bits.now s)) =
+    (n : ℕ) → n ≡ stretch a.table.now g → (IsSpan a.table.now g → T (is_scan a.table.now g) → SpanContents a.p a.arena.now a.table.now a.bits.now g) →
+    (((g + n) ≤ a.p) × Edge a.table.now (g + n) × ((s : ℕ) → s < (g + n) → IsSpan a.table.now s → T (is_scan a.table.now s) → SpanContents a.p a.arena.now a.table.now a.bits.now s)) =
     λ n e C. let N = ahead in
-        rw e (N.inside, N.edge, spans_more c.requires.0.consistent.spans _ c.loop-g.g c.loop-g.invariant.1 c.loop-g.invariant.2 C) in
+    rw e (N.inside, N.edge, spans_more c.requires.0.consistent.spans _ c.loop-g.g c.loop-g.invariant.1 c.loop-g.invariant.2 C) in
     let o = c.owner.ensures in
     onward 1 (free_pages _ _ (omega (arith, o))) (λ i. absurd (omega (arith, o)))
 
 pub overflow_add-g-else-owner-eq0 : goal.overflow_add-g-else-owner-eq0
 overflow_add-g-else-owner-eq0 c =
     let ahead : let a = c.args in NextStretch a.p a.table.now c.loop-g.g = next c.requires.0.consistent.spans c.loop-g.g c.loop-g-test.true c.loop-g.invariant.1 in
-    let first : IsSpan c.args.table.now c.loop-g.g =     begins c.requires.0.consistent.spans c.loop-g.g c.loop-g.invariant.1 (omega (arith, c.owner.ensures)) in
+    let first : IsSpan c.args.table.now c.loop-g.g = begins c.requires.0.consistent.spans c.loop-g.g c.loop-g.invariant.1 (omega (arith, c.owner.ensures)) in
     let pages : c.span_at-span.result.pages ≡ stretch c.args.table.now c.loop-g.g = span_pages c.span_at-span.ensures first in
     omega (arith, pages, ahead.inside, c.requires.0.consistent.few)
 
 pub span_ok-requires : goal.span_ok-requires
 span_ok-requires c =
-    let first : IsSpan c.args.table.now c.loop-g.g =     begins c.requires.0.consistent.spans c.loop-g.g c.loop-g.invariant.1 (omega (arith, c.owner.ensures)) in
+    let first : IsSpan c.args.table.now c.loop-g.g = begins c.requires.0.consistent.spans c.loop-g.g c.loop-g.invariant.1 (omega (arith, c.owner.ensures)) in
     let R = c.span_at-span.ensures in
     (c.requires.0, c.requires.1, rw R.start first, reads_own R)
 
 pub returns-then-not-span_ok : goal.returns-then-not-span_ok
 returns-then-not-span_ok c =
     let contents : ℕ → Type 0 = let a = c.args in SpanContents a.p a.arena.now a.table.now a.bits.now in
-    let first : IsSpan c.args.table.now c.loop-g.g =     begins c.requires.0.consistent.spans c.loop-g.g c.loop-g.invariant.1 (omega (arith, c.owner.ensures)) in
+    let first : IsSpan c.args.table.now c.loop-g.g = begins c.requires.0.consistent.spans c.loop-g.g c.loop-g.invariant.1 (omega (arith, c.owner.ensures)) in
     let asked = c.span_ok in
     let F = c.requires.0 in
     let i = first in
@@ -50,7 +50,7 @@ returns-then-not-span_ok c =
 pub loop-g-smaller-else-not-span_ok : goal.loop-g-smaller-else-not-span_ok
 loop-g-smaller-else-not-span_ok c =
     let ahead : let a = c.args in NextStretch a.p a.table.now c.loop-g.g = next c.requires.0.consistent.spans c.loop-g.g c.loop-g-test.true c.loop-g.invariant.1 in
-    let first : IsSpan c.args.table.now c.loop-g.g =     begins c.requires.0.consistent.spans c.loop-g.g c.loop-g.invariant.1 (omega (arith, c.owner.ensures)) in
+    let first : IsSpan c.args.table.now c.loop-g.g = begins c.requires.0.consistent.spans c.loop-g.g c.loop-g.invariant.1 (omega (arith, c.owner.ensures)) in
     let pages : c.span_at-span.result.pages ≡ stretch c.args.table.now c.loop-g.g = span_pages c.span_at-span.ensures first in
     omega (arith, pages, ahead)
 
@@ -59,11 +59,11 @@ loop-g-preserved-else-not-span_ok c =
     let contents : ℕ → Type 0 = let a = c.args in SpanContents a.p a.arena.now a.table.now a.bits.now in
     let ahead : let a = c.args in NextStretch a.p a.table.now c.loop-g.g = next c.requires.0.consistent.spans c.loop-g.g c.loop-g-test.true c.loop-g.invariant.1 in
     let onward : let a = c.args in let g = c.loop-g.g in
-        (n : ℕ) → n ≡ stretch a.table.now g → (IsSpan a.table.now g → T (is_scan a.table.now g) → SpanContents a.p a.arena.now a.table.now a.bits.now g) →
-        (((g + n) ≤ a.p) × Edge a.table.now (g + n) × ((s : ℕ) → s < (g + n) → IsSpan a.table.now s → T (is_scan a.table.now s) → SpanContents a.p a.arena.now a.table.now a.bits.now s)) =
+    (n : ℕ) → n ≡ stretch a.table.now g → (IsSpan a.table.now g → T (is_scan a.table.now g) → SpanContents a.p a.arena.now a.table.now a.bits.now g) →
+    (((g + n) ≤ a.p) × Edge a.table.now (g + n) × ((s : ℕ) → s < (g + n) → IsSpan a.table.now s → T (is_scan a.table.now s) → SpanContents a.p a.arena.now a.table.now a.bits.now s)) =
     λ n e C. let N = ahead in
-        rw e (N.inside, N.edge, spans_more c.requires.0.consistent.spans _ c.loop-g.g c.loop-g.invariant.1 c.loop-g.invariant.2 C) in
-    let first : IsSpan c.args.table.now c.loop-g.g =     begins c.requires.0.consistent.spans c.loop-g.g c.loop-g.invariant.1 (omega (arith, c.owner.ensures)) in
+    rw e (N.inside, N.edge, spans_more c.requires.0.consistent.spans _ c.loop-g.g c.loop-g.invariant.1 c.loop-g.invariant.2 C) in
+    let first : IsSpan c.args.table.now c.loop-g.g = begins c.requires.0.consistent.spans c.loop-g.g c.loop-g.invariant.1 (omega (arith, c.owner.ensures)) in
     let pages : c.span_at-span.result.pages ≡ stretch c.args.table.now c.loop-g.g = span_pages c.span_at-span.ensures first in
     let asked = c.span_ok in
     onward _ pages (λ i _. yes asked.result (own_span c.span_at-span.ensures contents asked.result asked.ensures) c.if-not-span_ok.false)
@@ -71,7 +71,7 @@ loop-g-preserved-else-not-span_ok c =
 pub loop-g-smaller : goal.loop-g-smaller
 loop-g-smaller c =
     let ahead : let a = c.args in NextStretch a.p a.table.now c.loop-g.g = next c.requires.0.consistent.spans c.loop-g.g c.loop-g-test.true c.loop-g.invariant.1 in
-    let first : IsSpan c.args.table.now c.loop-g.g =     begins c.requires.0.consistent.spans c.loop-g.g c.loop-g.invariant.1 (omega (arith, c.owner.ensures)) in
+    let first : IsSpan c.args.table.now c.loop-g.g = begins c.requires.0.consistent.spans c.loop-g.g c.loop-g.invariant.1 (omega (arith, c.owner.ensures)) in
     let pages : c.span_at-span.result.pages ≡ stretch c.args.table.now c.loop-g.g = span_pages c.span_at-span.ensures first in
     omega (arith, pages, ahead)
 
@@ -79,11 +79,11 @@ pub loop-g-preserved : goal.loop-g-preserved
 loop-g-preserved c =
     let ahead : let a = c.args in NextStretch a.p a.table.now c.loop-g.g = next c.requires.0.consistent.spans c.loop-g.g c.loop-g-test.true c.loop-g.invariant.1 in
     let onward : let a = c.args in let g = c.loop-g.g in
-        (n : ℕ) → n ≡ stretch a.table.now g → (IsSpan a.table.now g → T (is_scan a.table.now g) → SpanContents a.p a.arena.now a.table.now a.bits.now g) →
-        (((g + n) ≤ a.p) × Edge a.table.now (g + n) × ((s : ℕ) → s < (g + n) → IsSpan a.table.now s → T (is_scan a.table.now s) → SpanContents a.p a.arena.now a.table.now a.bits.now s)) =
+    (n : ℕ) → n ≡ stretch a.table.now g → (IsSpan a.table.now g → T (is_scan a.table.now g) → SpanContents a.p a.arena.now a.table.now a.bits.now g) →
+    (((g + n) ≤ a.p) × Edge a.table.now (g + n) × ((s : ℕ) → s < (g + n) → IsSpan a.table.now s → T (is_scan a.table.now s) → SpanContents a.p a.arena.now a.table.now a.bits.now s)) =
     λ n e C. let N = ahead in
-        rw e (N.inside, N.edge, spans_more c.requires.0.consistent.spans _ c.loop-g.g c.loop-g.invariant.1 c.loop-g.invariant.2 C) in
-    let first : IsSpan c.args.table.now c.loop-g.g =     begins c.requires.0.consistent.spans c.loop-g.g c.loop-g.invariant.1 (omega (arith, c.owner.ensures)) in
+    rw e (N.inside, N.edge, spans_more c.requires.0.consistent.spans _ c.loop-g.g c.loop-g.invariant.1 c.loop-g.invariant.2 C) in
+    let first : IsSpan c.args.table.now c.loop-g.g = begins c.requires.0.consistent.spans c.loop-g.g c.loop-g.invariant.1 (omega (arith, c.owner.ensures)) in
     let pages : c.span_at-span.result.pages ≡ stretch c.args.table.now c.loop-g.g = span_pages c.span_at-span.ensures first in
     let F = c.requires.0 in
     onward _ pages (λ i x. plain_span _ _ _ _ F c.span_at-span.ensures i c.if-span.false x)

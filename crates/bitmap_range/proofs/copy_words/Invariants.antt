@@ -10,7 +10,7 @@ use Rattle.model.proofs.Words.{words_at_lem}
 use Rattle.bitmap_range.proofs.copy_words.Given as goal
 
 abbrev pub invariant-loop-k : goal.invariant-loop-k
-invariant-loop-k l =     (l.k ≤ l.n) × (length l.ws ≡ length l.initial.ws) × (l.ws ≡ put_words l.to l.k (λ i. get_or l.initial.ws (i - l.to + l.from) 0) l.initial.ws)
+invariant-loop-k l = (l.k ≤ l.n) × (length l.ws ≡ length l.initial.ws) × (l.ws ≡ put_words l.to l.k (λ i. get_or l.initial.ws (i - l.to + l.from) 0) l.initial.ws)
 
 abbrev pub decreases-loop-k : goal.decreases-loop-k
 decreases-loop-k l = l.n - l.k

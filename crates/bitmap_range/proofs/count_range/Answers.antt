@@ -53,9 +53,9 @@ pub loop-k-preserved : goal.loop-k-preserved
 loop-k-preserved c =
     let word : ℕ = get_or c.args.ws.now (c.args.first + c.loop-k.k) 0 in
     let a = c.args in (
-  omega arith,
-  ap (λ t. t + ones word) c.loop-k.invariant.1
-      ∙ sym (count_word a.ws.now a.first c.loop-k.k (λ x. (c.shared_slice_known-1.given x).fits)),
+      omega arith,
+      ap (λ t. t + ones word) c.loop-k.invariant.1
+          ∙ sym (count_word a.ws.now a.first c.loop-k.k (λ x. (c.shared_slice_known-1.given x).fits)),
     )
 
 pub returns : goal.returns

@@ -29,7 +29,7 @@ loop-k-preserved c = let a = c.args in (
   omega arith,
   simp length-set c.loop-k.invariant.1,
   ap (λ l. set l (a.first + c.loop-k.k) a.value) c.loop-k.invariant.2 ∙ sym (run_step _ a.first c.loop-k.k _ a.ws.now),
-    )
+)
 
 pub shape_of-ws : goal.shape_of-ws
 shape_of-ws c = c.loop-k.invariant.1

@@ -12,10 +12,10 @@ use Rattle.bitmap_range.proofs.put_from_word.Goals as goal
 pub returns-then-rest-eq0 : goal.returns-then-rest-eq0
 returns-then-rest-eq0 c =
     let whole : let a = c.args in
-        c.fill_words.new.ws ≡ write_run with_bit (a.first * 64) (a.n / 64 * 64) (λ i. a.on) a.ws.now =
-        let a = c.args in
-        c.fill_words.ensures ∙ ap (λ w. put_words a.first (a.n / 64) (λ i. w) a.ws.now) c.all_bits.ensures
-        ∙ fill_bits a.on a.first (a.n / 64) a.ws.now (omega arith) (λ x. (c.slice_known-1.given x).fits) in
+    c.fill_words.new.ws ≡ write_run with_bit (a.first * 64) (a.n / 64 * 64) (λ i. a.on) a.ws.now =
+    let a = c.args in
+    c.fill_words.ensures ∙ ap (λ w. put_words a.first (a.n / 64) (λ i. w) a.ws.now) c.all_bits.ensures
+    ∙ fill_bits a.on a.first (a.n / 64) a.ws.now (omega arith) (λ x. (c.slice_known-1.given x).fits) in
     let n = c.args.n in
     let e : n / 64 * 64 ≡ n = omega arith in
     rw e at whole
@@ -23,10 +23,10 @@ returns-then-rest-eq0 c =
 pub returns : goal.returns
 returns c =
     let whole : let a = c.args in
-        c.fill_words.new.ws ≡ write_run with_bit (a.first * 64) (a.n / 64 * 64) (λ i. a.on) a.ws.now =
-        let a = c.args in
-        c.fill_words.ensures ∙ ap (λ w. put_words a.first (a.n / 64) (λ i. w) a.ws.now) c.all_bits.ensures
-        ∙ fill_bits a.on a.first (a.n / 64) a.ws.now (omega arith) (λ x. (c.slice_known-1.given x).fits) in
+    c.fill_words.new.ws ≡ write_run with_bit (a.first * 64) (a.n / 64 * 64) (λ i. a.on) a.ws.now =
+    let a = c.args in
+    c.fill_words.ensures ∙ ap (λ w. put_words a.first (a.n / 64) (λ i. w) a.ws.now) c.all_bits.ensures
+    ∙ fill_bits a.on a.first (a.n / 64) a.ws.now (omega arith) (λ x. (c.slice_known-1.given x).fits) in
     let a = c.args in
     let e : a.n / 64 * 64 + a.n % 64 ≡ a.n = omega arith in
     rw (c.put_bits.ensures, whole)

@@ -19,33 +19,33 @@ overflow_cast-found c = trailing_fits _
 pub returns-then-bit-to : goal.returns-then-bit-to
 returns-then-bit-to c =
     let seen : let a = c.args in
-        let ws = a.ws.now in
-        let at = c.loop-at.at in
-        Passed (pass_from (is_clear ws) a.from) at (count_trailing_zeros 64 (bit_and ((2 ^ 64 - 1) - get_or ws at 0) c.loop-at.mask)) =
-        let i = c.loop-at.invariant in
-        scan_clear c.args.ws.now (λ x. (c.shared_slice_known-in-loop-at-1.given x).fits) i.0 i.1 in
+    let ws = a.ws.now in
+    let at = c.loop-at.at in
+    Passed (pass_from (is_clear ws) a.from) at (count_trailing_zeros 64 (bit_and ((2 ^ 64 - 1) - get_or ws at 0) c.loop-at.mask)) =
+    let i = c.loop-at.invariant in
+    scan_clear c.args.ws.now (λ x. (c.shared_slice_known-in-loop-at-1.given x).fits) i.0 i.1 in
     let a = c.args in
     omega (arith, found (is_clear a.ws.now) a.from a.to c.requires.0 seen c.if-found-lt-WORD_BITS.true)
 
 pub returns-then-found-lt-WORD_BITS : goal.returns-then-found-lt-WORD_BITS
 returns-then-found-lt-WORD_BITS c =
     let seen : let a = c.args in
-        let ws = a.ws.now in
-        let at = c.loop-at.at in
-        Passed (pass_from (is_clear ws) a.from) at (count_trailing_zeros 64 (bit_and ((2 ^ 64 - 1) - get_or ws at 0) c.loop-at.mask)) =
-        let i = c.loop-at.invariant in
-        scan_clear c.args.ws.now (λ x. (c.shared_slice_known-in-loop-at-1.given x).fits) i.0 i.1 in
+    let ws = a.ws.now in
+    let at = c.loop-at.at in
+    Passed (pass_from (is_clear ws) a.from) at (count_trailing_zeros 64 (bit_and ((2 ^ 64 - 1) - get_or ws at 0) c.loop-at.mask)) =
+    let i = c.loop-at.invariant in
+    scan_clear c.args.ws.now (λ x. (c.shared_slice_known-in-loop-at-1.given x).fits) i.0 i.1 in
     let a = c.args in
     none_found (is_clear a.ws.now) a.from a.to c.requires.0 _ seen.none c.if-bit-to.false
 
 pub loop-at-preserved : goal.loop-at-preserved
 loop-at-preserved c =
     let seen : let a = c.args in
-        let ws = a.ws.now in
-        let at = c.loop-at.at in
-        Passed (pass_from (is_clear ws) a.from) at (count_trailing_zeros 64 (bit_and ((2 ^ 64 - 1) - get_or ws at 0) c.loop-at.mask)) =
-        let i = c.loop-at.invariant in
-        scan_clear c.args.ws.now (λ x. (c.shared_slice_known-in-loop-at-1.given x).fits) i.0 i.1 in
+    let ws = a.ws.now in
+    let at = c.loop-at.at in
+    Passed (pass_from (is_clear ws) a.from) at (count_trailing_zeros 64 (bit_and ((2 ^ 64 - 1) - get_or ws at 0) c.loop-at.mask)) =
+    let i = c.loop-at.invariant in
+    scan_clear c.args.ws.now (λ x. (c.shared_slice_known-in-loop-at-1.given x).fits) i.0 i.1 in
     (masked_next c.loop-at.invariant.0, whole_word seen c.if-found-lt-WORD_BITS.false)
 
 pub returns : goal.returns

@@ -21,26 +21,26 @@ overflow_cast-found c = trailing_fits _
 pub returns-then-found-lt-WORD_BITS : goal.returns-then-found-lt-WORD_BITS
 returns-then-found-lt-WORD_BITS c =
     let seen : let a = c.args in
-        let b = a.bits.now in
-        let at = c.loop-at.at in
-        let word = bit_and (bit_and (get_or b at 0) ((2 ^ 64 - 1) - get_or b (marked_part * (page_blocks * a.p) + at) 0)) c.loop-at.mask in
-        Passed (pass_from (is_freed a.p b) a.from.0) at (count_trailing_zeros 64 word) =
-        let a = c.args in
-        let i = c.loop-at.invariant in
-        scan_freed a.p a.bits.now (λ x. (c.shared_slice_known-1.given x).fits) (marked_part * (page_blocks * a.p)) (omega arith) (omega arith) i.0 i.1 in
+    let b = a.bits.now in
+    let at = c.loop-at.at in
+    let word = bit_and (bit_and (get_or b at 0) ((2 ^ 64 - 1) - get_or b (marked_part * (page_blocks * a.p) + at) 0)) c.loop-at.mask in
+    Passed (pass_from (is_freed a.p b) a.from.0) at (count_trailing_zeros 64 word) =
+    let a = c.args in
+    let i = c.loop-at.invariant in
+    scan_freed a.p a.bits.now (λ x. (c.shared_slice_known-1.given x).fits) (marked_part * (page_blocks * a.p)) (omega arith) (omega arith) i.0 i.1 in
     let a = c.args in
     omega (arith, found (is_freed a.p a.bits.now) a.from.0 a.to.0 c.requires.1.order seen (omega arith))
 
 pub loop-at-preserved : goal.loop-at-preserved
 loop-at-preserved c =
     let seen : let a = c.args in
-        let b = a.bits.now in
-        let at = c.loop-at.at in
-        let word = bit_and (bit_and (get_or b at 0) ((2 ^ 64 - 1) - get_or b (marked_part * (page_blocks * a.p) + at) 0)) c.loop-at.mask in
-        Passed (pass_from (is_freed a.p b) a.from.0) at (count_trailing_zeros 64 word) =
-        let a = c.args in
-        let i = c.loop-at.invariant in
-        scan_freed a.p a.bits.now (λ x. (c.shared_slice_known-1.given x).fits) (marked_part * (page_blocks * a.p)) (omega arith) (omega arith) i.0 i.1 in
+    let b = a.bits.now in
+    let at = c.loop-at.at in
+    let word = bit_and (bit_and (get_or b at 0) ((2 ^ 64 - 1) - get_or b (marked_part * (page_blocks * a.p) + at) 0)) c.loop-at.mask in
+    Passed (pass_from (is_freed a.p b) a.from.0) at (count_trailing_zeros 64 word) =
+    let a = c.args in
+    let i = c.loop-at.invariant in
+    scan_freed a.p a.bits.now (λ x. (c.shared_slice_known-1.given x).fits) (marked_part * (page_blocks * a.p)) (omega arith) (omega arith) i.0 i.1 in
     (masked_next c.loop-at.invariant.0, whole_word seen (omega arith))
 
 pub returns : goal.returns

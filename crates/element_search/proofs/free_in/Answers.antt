@@ -46,7 +46,7 @@ returns-then-count-k c a o =
     let size_is : let a = c.args in c.layout_of-elements.result.words ≡ element_words a.table.now a.s.0 = let r = c.span_at-span.ensures in rw (r.class, r.pages) at c.layout_of-elements.ensures.0 in
     let count_is : let a = c.args in c.layout_of-elements.result.count ≡ elements a.table.now a.s.0 = rw c.span_at-span.ensures.class at c.layout_of-elements.ensures.1 in
     let free : (a o : List ℕ) → let s = c.args in
-        c.first_free-k.result ≡ free_element (lent s.p a s.table.now s.bits.now o) s.s.0 =
+    c.first_free-k.result ≡ free_element (lent s.p a s.table.now s.bits.now o) s.s.0 =
     λ a o. free_found span a o c.first_word-first.ensures size_is count_is c.first_free-k.ensures in
     absent _ _ _ _ c.nothing-then-count-k.ensures (full span a o _ same count_is (free a o) c.if-count-k.true)
 
@@ -76,6 +76,6 @@ returns c a o =
     let size_is : let a = c.args in c.layout_of-elements.result.words ≡ element_words a.table.now a.s.0 = let r = c.span_at-span.ensures in rw (r.class, r.pages) at c.layout_of-elements.ensures.0 in
     let count_is : let a = c.args in c.layout_of-elements.result.count ≡ elements a.table.now a.s.0 = rw c.span_at-span.ensures.class at c.layout_of-elements.ensures.1 in
     let free : (a o : List ℕ) → let s = c.args in
-        c.first_free-k.result ≡ free_element (lent s.p a s.table.now s.bits.now o) s.s.0 =
+    c.first_free-k.result ≡ free_element (lent s.p a s.table.now s.bits.now o) s.s.0 =
     λ a o. free_found span a o c.first_word-first.ensures size_is count_is c.first_free-k.ensures in
     record { found = room span a o _ same count_is (free a o) c.if-count-k.false; word = λ _. found_start span a o c.first_word-first.ensures size_is (free a o) }

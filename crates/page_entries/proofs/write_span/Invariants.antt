@@ -11,7 +11,7 @@ use borrow.Author.Rules.{rules}
 use Rattle.page_entries.proofs.write_span.Given as goal
 
 abbrev pub invariant-loop-k : goal.invariant-loop-k
-invariant-loop-k l =     (l.k ≤ l.n) × Written l.first l.k (span_page l.first l.n l.kind) l.initial.table l.table × (l.next_count ≡ cond (eqb (l.first + l.k) l.first) l.n 0) × (l.next_kind ≡ cond (eqb (l.first + l.k) l.first) l.kind 0)
+invariant-loop-k l = (l.k ≤ l.n) × Written l.first l.k (span_page l.first l.n l.kind) l.initial.table l.table × (l.next_count ≡ cond (eqb (l.first + l.k) l.first) l.n 0) × (l.next_kind ≡ cond (eqb (l.first + l.k) l.first) l.kind 0)
 
 abbrev pub decreases-loop-k : goal.decreases-loop-k
 decreases-loop-k l = l.n - l.k

@@ -40,7 +40,7 @@ returns-then-other-ne0 c =
     let heap : List ℕ → Heap = λ a. let x = c.args in lent x.p a x.table.now x.bits.now x.roots.now in
     let slots : (a : List ℕ) → let x = c.args in c.no_slot-other.result ≡ slots_refusal (heap a) x.s x.i x.j =
     λ a. let x = c.args in
-        by_other (heap a) x.s x.i x.j (c.slot_refusal-place.ensures x.p a x.table.now x.bits.now) c.if-place-ne0.false c.no_slot-other.ensures in
+    by_other (heap a) x.s x.i x.j (c.slot_refusal-place.ensures x.p a x.table.now x.bits.now) c.if-place-ne0.false c.no_slot-other.ensures in
     λ a.
     let x = c.args in
     no_slot (heap a) x.s x.i x.j x.f (slots a) c.if-other-ne0.true
@@ -50,7 +50,7 @@ returns-then-none-ne0 c =
     let heap : List ℕ → Heap = λ a. let x = c.args in lent x.p a x.table.now x.bits.now x.roots.now in
     let slots : (a : List ℕ) → let x = c.args in c.no_slot-other.result ≡ slots_refusal (heap a) x.s x.i x.j =
     λ a. let x = c.args in
-        by_other (heap a) x.s x.i x.j (c.slot_refusal-place.ensures x.p a x.table.now x.bits.now) c.if-place-ne0.false c.no_slot-other.ensures in
+    by_other (heap a) x.s x.i x.j (c.slot_refusal-place.ensures x.p a x.table.now x.bits.now) c.if-place-ne0.false c.no_slot-other.ensures in
     λ a.
     let x = c.args in
     nil_slot_lem (heap a) x.s x.i x.j x.f (slots a) c.if-other-ne0.false (rw (← c.slot_at-slot.ensures) c.no_record-none.ensures) c.if-none-ne0.true
@@ -66,7 +66,7 @@ returns c =
     let heap : List ℕ → Heap = λ a. let x = c.args in lent x.p a x.table.now x.bits.now x.roots.now in
     let slots : (a : List ℕ) → let x = c.args in c.no_slot-other.result ≡ slots_refusal (heap a) x.s x.i x.j =
     λ a. let x = c.args in
-        by_other (heap a) x.s x.i x.j (c.slot_refusal-place.ensures x.p a x.table.now x.bits.now) c.if-place-ne0.false c.no_slot-other.ensures in
+    by_other (heap a) x.s x.i x.j (c.slot_refusal-place.ensures x.p a x.table.now x.bits.now) c.if-place-ne0.false c.no_slot-other.ensures in
     λ a.
     let at = c.slot_at-slot.ensures in
     let x = c.args in

@@ -59,70 +59,70 @@ pub overflow_add-pointers : goal.overflow_add-pointers
 overflow_add-pointers c =
     let fit : Fit c.args.bits.now = λ x. (c.slice_known-1.given x).fits in
     let lengths : (t : List ℕ) →
-        let a = c.args in
-        SpanRead a.p t a.bits.now a.span → Measured a.p t a.bits.now a.span.start.0 c.element_words-size.result c.first_word-to.result.0 =
+    let a = c.args in
+    SpanRead a.p t a.bits.now a.span → Measured a.p t a.bits.now a.span.start.0 c.element_words-size.result c.first_word-to.result.0 =
     λ t R. measured c.args.span R c.element_words-size.ensures c.first_word-to.ensures in
     let facts : let l = c.loop-at in
-        Turn c.args.p c.element_words-size.result c.first_word-to.result.0 l.at l.bits =
-        let R = c.requires in
-        let M = lengths R.0 R.1 in
-        loop_turn M fit _ _ (c.loop-at.invariant R.0 M) c.loop-at-test.true in
+    Turn c.args.p c.element_words-size.result c.first_word-to.result.0 l.at l.bits =
+    let R = c.requires in
+    let M = lengths R.0 R.1 in
+    loop_turn M fit _ _ (c.loop-at.invariant R.0 M) c.loop-at-test.true in
     omega (arith, facts)
 
 pub clear_range-requires : goal.clear_range-requires
 clear_range-requires c =
     let fit : Fit c.args.bits.now = λ x. (c.slice_known-1.given x).fits in
     let lengths : (t : List ℕ) →
-        let a = c.args in
-        SpanRead a.p t a.bits.now a.span → Measured a.p t a.bits.now a.span.start.0 c.element_words-size.result c.first_word-to.result.0 =
+    let a = c.args in
+    SpanRead a.p t a.bits.now a.span → Measured a.p t a.bits.now a.span.start.0 c.element_words-size.result c.first_word-to.result.0 =
     λ t R. measured c.args.span R c.element_words-size.ensures c.first_word-to.ensures in
     let facts : let l = c.loop-at in
-        Turn c.args.p c.element_words-size.result c.first_word-to.result.0 l.at l.bits =
-        let R = c.requires in
-        let M = lengths R.0 R.1 in
-        loop_turn M fit _ _ (c.loop-at.invariant R.0 M) c.loop-at-test.true in
+    Turn c.args.p c.element_words-size.result c.first_word-to.result.0 l.at l.bits =
+    let R = c.requires in
+    let M = lengths R.0 R.1 in
+    loop_turn M fit _ _ (c.loop-at.invariant R.0 M) c.loop-at-test.true in
     omega (arith, facts)
 
 pub overflow_add-next : goal.overflow_add-next
 overflow_add-next c =
     let fit : Fit c.args.bits.now = λ x. (c.slice_known-1.given x).fits in
     let lengths : (t : List ℕ) →
-        let a = c.args in
-        SpanRead a.p t a.bits.now a.span → Measured a.p t a.bits.now a.span.start.0 c.element_words-size.result c.first_word-to.result.0 =
+    let a = c.args in
+    SpanRead a.p t a.bits.now a.span → Measured a.p t a.bits.now a.span.start.0 c.element_words-size.result c.first_word-to.result.0 =
     λ t R. measured c.args.span R c.element_words-size.ensures c.first_word-to.ensures in
     let facts : let l = c.loop-at in
-        Turn c.args.p c.element_words-size.result c.first_word-to.result.0 l.at l.bits =
-        let R = c.requires in
-        let M = lengths R.0 R.1 in
-        loop_turn M fit _ _ (c.loop-at.invariant R.0 M) c.loop-at-test.true in
+    Turn c.args.p c.element_words-size.result c.first_word-to.result.0 l.at l.bits =
+    let R = c.requires in
+    let M = lengths R.0 R.1 in
+    loop_turn M fit _ _ (c.loop-at.invariant R.0 M) c.loop-at-test.true in
     omega (arith, facts)
 
 pub next_freed-at-requires-in-loop-at : goal.next_freed-at-requires-in-loop-at
 next_freed-at-requires-in-loop-at c =
     let fit : Fit c.args.bits.now = λ x. (c.slice_known-1.given x).fits in
     let lengths : (t : List ℕ) →
-        let a = c.args in
-        SpanRead a.p t a.bits.now a.span → Measured a.p t a.bits.now a.span.start.0 c.element_words-size.result c.first_word-to.result.0 =
+    let a = c.args in
+    SpanRead a.p t a.bits.now a.span → Measured a.p t a.bits.now a.span.start.0 c.element_words-size.result c.first_word-to.result.0 =
     λ t R. measured c.args.span R c.element_words-size.ensures c.first_word-to.ensures in
     let facts : let l = c.loop-at in
-        Turn c.args.p c.element_words-size.result c.first_word-to.result.0 l.at l.bits =
-        let R = c.requires in
-        let M = lengths R.0 R.1 in
-        loop_turn M fit _ _ (c.loop-at.invariant R.0 M) c.loop-at-test.true in
+    Turn c.args.p c.element_words-size.result c.first_word-to.result.0 l.at l.bits =
+    let R = c.requires in
+    let M = lengths R.0 R.1 in
+    loop_turn M fit _ _ (c.loop-at.invariant R.0 M) c.loop-at-test.true in
     omega (arith, facts, c.clear_range.auto.ws)
 
 pub loop-at-smaller : goal.loop-at-smaller
 loop-at-smaller c =
     let fit : Fit c.args.bits.now = λ x. (c.slice_known-1.given x).fits in
     let lengths : (t : List ℕ) →
-        let a = c.args in
-        SpanRead a.p t a.bits.now a.span → Measured a.p t a.bits.now a.span.start.0 c.element_words-size.result c.first_word-to.result.0 =
+    let a = c.args in
+    SpanRead a.p t a.bits.now a.span → Measured a.p t a.bits.now a.span.start.0 c.element_words-size.result c.first_word-to.result.0 =
     λ t R. measured c.args.span R c.element_words-size.ensures c.first_word-to.ensures in
     let facts : let l = c.loop-at in
-        Turn c.args.p c.element_words-size.result c.first_word-to.result.0 l.at l.bits =
-        let R = c.requires in
-        let M = lengths R.0 R.1 in
-        loop_turn M fit _ _ (c.loop-at.invariant R.0 M) c.loop-at-test.true in
+    Turn c.args.p c.element_words-size.result c.first_word-to.result.0 l.at l.bits =
+    let R = c.requires in
+    let M = lengths R.0 R.1 in
+    loop_turn M fit _ _ (c.loop-at.invariant R.0 M) c.loop-at-test.true in
     omega (arith, facts, c.next_freed-at-in-loop-at.ensures, c.loop-at-test.true)
 
 pub loop-at-preserved : goal.loop-at-preserved
@@ -134,8 +134,8 @@ loop-at-preserved c =
 pub shape_of-bits : goal.shape_of-bits
 shape_of-bits c =
     let lengths : (t : List ℕ) →
-        let a = c.args in
-        SpanRead a.p t a.bits.now a.span → Measured a.p t a.bits.now a.span.start.0 c.element_words-size.result c.first_word-to.result.0 =
+    let a = c.args in
+    SpanRead a.p t a.bits.now a.span → Measured a.p t a.bits.now a.span.start.0 c.element_words-size.result c.first_word-to.result.0 =
     λ t R. measured c.args.span R c.element_words-size.ensures c.first_word-to.ensures in
     let R = c.requires in
     (c.loop-at.invariant R.0 (lengths R.0 R.1)).long
@@ -144,8 +144,8 @@ pub returns : goal.returns
 returns c =
     let fit : Fit c.args.bits.now = λ x. (c.slice_known-1.given x).fits in
     let lengths : (t : List ℕ) →
-        let a = c.args in
-        SpanRead a.p t a.bits.now a.span → Measured a.p t a.bits.now a.span.start.0 c.element_words-size.result c.first_word-to.result.0 =
+    let a = c.args in
+    SpanRead a.p t a.bits.now a.span → Measured a.p t a.bits.now a.span.start.0 c.element_words-size.result c.first_word-to.result.0 =
     λ t R. measured c.args.span R c.element_words-size.ensures c.first_word-to.ensures in
     let l = c.loop-at in
     λ t R. let M = lengths t R in loop_end M fit _ _ (l.invariant t M) c.loop-at-test.false

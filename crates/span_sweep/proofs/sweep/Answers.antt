@@ -48,8 +48,8 @@ count_range-kept-requires c =
 pub overflow_sub-freed : goal.overflow_sub-freed
 overflow_sub-freed c =
     let counts : SpanCounts c.args.p c.args.table.now c.args.bits.now c.args.span.start.0 c.requires.sweepable c.count_range-allocated.result c.count_range-kept.result =
-        let a = c.args in
-        counted a.p a.table.now a.bits.now a.span.start.0 c.requires.sweepable _ _ _ _ _ c.requires.reads.pages c.first_block-first.ensures (omega arith) c.count_range-allocated.ensures c.count_range-kept.ensures in
+    let a = c.args in
+    counted a.p a.table.now a.bits.now a.span.start.0 c.requires.sweepable _ _ _ _ _ c.requires.reads.pages c.first_block-first.ensures (omega arith) c.count_range-allocated.ensures c.count_range-kept.ensures in
     counts.less
 
 pub clear_freed-requires : goal.clear_freed-requires
@@ -68,14 +68,14 @@ free_span-requires c =
 pub returns-then-kept-eq0 : goal.returns-then-kept-eq0
 returns-then-kept-eq0 c =
     let counts : SpanCounts c.args.p c.args.table.now c.args.bits.now c.args.span.start.0 c.requires.sweepable c.count_range-allocated.result c.count_range-kept.result =
-        let a = c.args in
-        counted a.p a.table.now a.bits.now a.span.start.0 c.requires.sweepable _ _ _ _ _ c.requires.reads.pages c.first_block-first.ensures (omega arith) c.count_range-allocated.ensures c.count_range-kept.ensures in
+    let a = c.args in
+    counted a.p a.table.now a.bits.now a.span.start.0 c.requires.sweepable _ _ _ _ _ c.requires.reads.pages c.first_block-first.ensures (omega arith) c.count_range-allocated.ensures c.count_range-kept.ensures in
     let swept : (x roots : List ℕ) →
-        let a = c.args in
-        c.move_range.new.ws ≡ swept_bits (lent a.p x a.table.now a.bits.now roots) a.span.start.0 =
-        let a = c.args in
-        let freed = c.clear_freed in
-        swept_words a.p a.table.now a.bits.now a.span.start.0 c.requires.sweepable _ _ c.first_block-first.ensures (omega arith) freed.last.1.0 c.requires.reads.pages (freed.ensures a.table.now c.requires) c.move_range.ensures in
+    let a = c.args in
+    c.move_range.new.ws ≡ swept_bits (lent a.p x a.table.now a.bits.now roots) a.span.start.0 =
+    let a = c.args in
+    let freed = c.clear_freed in
+    swept_words a.p a.table.now a.bits.now a.span.start.0 c.requires.sweepable _ _ c.first_block-first.ensures (omega arith) freed.last.1.0 c.requires.reads.pages (freed.ensures a.table.now c.requires) c.move_range.ensures in
     let a = c.args in
     span_freed a.p a.table.now a.bits.now a.span.start.0 c.requires.sweepable counts (omega (arith, c.if-kept-eq0.true)) c.requires.reads.pages c.free_span.ensures swept
 
@@ -87,13 +87,13 @@ make_swept-requires c =
 pub returns : goal.returns
 returns c =
     let counts : SpanCounts c.args.p c.args.table.now c.args.bits.now c.args.span.start.0 c.requires.sweepable c.count_range-allocated.result c.count_range-kept.result =
-        let a = c.args in
-        counted a.p a.table.now a.bits.now a.span.start.0 c.requires.sweepable _ _ _ _ _ c.requires.reads.pages c.first_block-first.ensures (omega arith) c.count_range-allocated.ensures c.count_range-kept.ensures in
+    let a = c.args in
+    counted a.p a.table.now a.bits.now a.span.start.0 c.requires.sweepable _ _ _ _ _ c.requires.reads.pages c.first_block-first.ensures (omega arith) c.count_range-allocated.ensures c.count_range-kept.ensures in
     let swept : (x roots : List ℕ) →
-        let a = c.args in
-        c.move_range.new.ws ≡ swept_bits (lent a.p x a.table.now a.bits.now roots) a.span.start.0 =
-        let a = c.args in
-        let freed = c.clear_freed in
-        swept_words a.p a.table.now a.bits.now a.span.start.0 c.requires.sweepable _ _ c.first_block-first.ensures (omega arith) freed.last.1.0 c.requires.reads.pages (freed.ensures a.table.now c.requires) c.move_range.ensures in
+    let a = c.args in
+    c.move_range.new.ws ≡ swept_bits (lent a.p x a.table.now a.bits.now roots) a.span.start.0 =
+    let a = c.args in
+    let freed = c.clear_freed in
+    swept_words a.p a.table.now a.bits.now a.span.start.0 c.requires.sweepable _ _ c.first_block-first.ensures (omega arith) freed.last.1.0 c.requires.reads.pages (freed.ensures a.table.now c.requires) c.move_range.ensures in
     let a = c.args in
     span_kept a.p a.table.now a.bits.now a.span.start.0 c.requires.sweepable counts c.if-kept-eq0.false c.make_swept.ensures swept
