@@ -5,7 +5,7 @@
 
 ghost use Rattle.std.specs.Prelude.{◌≡◌, cond, eqb, get_or};
 ghost use Rattle.model.specs.Memory.{put_words, first_state, stack_count, closed, gray_state, mark};
-ghost use Rattle.model.specs.Answers.{◌orElse◌};
+ghost use Rattle.model.specs.Answers.{◌or_else◌};
 ghost use Rattle.model.specs.Checks.{phase_refusal, open_refusal};
 ghost use Rattle.model.specs.Cycle.{start, scan_stack, scan_globals};
 ghost use Rattle.model.specs.Lent.{Roots};

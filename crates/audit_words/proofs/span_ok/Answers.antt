@@ -29,7 +29,7 @@ blocks_ok-requires c =
     (c.requires.0, c.requires.1, omega arith, omega (arith, fits, c.first_block-first.ensures))
 
 pub returns-then-not-span : goal.returns-then-not-span
-returns-then-not-span c = read_swept _ _ _ _ c.requires.0 c.requires.3 c.requires.2 c.if-not-span.true _ c.first_block-first.ensures c.blocks_ok.result c.blocks_ok.ensures
+returns-then-not-span c = read_swept _ _ _ _ c.requires.0 c.requires.3 c.requires.2 (not-true _ c.if-not-span.true) _ c.first_block-first.ensures c.blocks_ok.result c.blocks_ok.ensures
 
 pub element_words-n-requires : goal.element_words-n-requires
 element_words-n-requires c =
@@ -52,4 +52,4 @@ overflow_add-end c =
     omega (arith, fits, c.requires.0.consistent, c.first_word.ensures)
 
 pub elements_ok-requires : goal.elements_ok-requires
-elements_ok-requires c = (c.requires.0, read_searched _ _ _ _ c.requires.0 c.requires.3 c.requires.2 _ _ _ c.element_words-n.ensures (rw c.if-not-span.false (omega arith)) (omega (arith, c.first_word.ensures)))
+elements_ok-requires c = (c.requires.0, read_searched _ _ _ _ c.requires.0 c.requires.3 c.requires.2 _ _ _ c.element_words-n.ensures (rw (not-false c.args.span.unswept c.if-not-span.false) (omega arith)) (omega (arith, c.first_word.ensures)))

@@ -4,13 +4,13 @@ use borrow.Author.Rules.{rules}
 use Rattle.c_answer.proofs.write_answer.Goals as goal
 
 pub returns-in-Refused : goal.returns-in-Refused
-returns-in-Refused c = rw c.answer-1.given.1 (refl, c.put.ensures)
+returns-in-Refused c = rw c.in-Refused.is (refl, c.put.ensures)
 
 pub returns-in-Done : goal.returns-in-Done
-returns-in-Done c = rw c.enum_told-1.given.1 (refl, c.put-in-Done.ensures)
+returns-in-Done c = rw c.in-Done.is (refl, c.put-in-Done.ensures)
 
 pub returns-in-Value : goal.returns-in-Value
-returns-in-Value c = rw c.answer-in-Value-1.given.1 (refl, c.put-in-Value.ensures)
+returns-in-Value c = rw c.in-Value.is (refl, c.put-in-Value.ensures)
 
 pub returns-in-Swept : goal.returns-in-Swept
-returns-in-Swept c = rw c.answer-in-Swept-1.given.1 (refl, c.put-in-Swept.ensures)
+returns-in-Swept c = rw c.in-Swept.is (refl, c.put-in-Swept.ensures)

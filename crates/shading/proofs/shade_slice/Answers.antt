@@ -16,7 +16,7 @@ shade-count-requires c =
     record { tables = record { few = t.few; table = t.table; bits = c.loop-k.invariant.2 ∙ t.bits }; named = λ n. c.requires.each c.loop-k.k (omega arith) n }
 
 pub overflow_add-count : goal.overflow_add-count
-overflow_add-count c = let o = at_most_one c.shade-count.ensures in omega (arith, c.loop-k, start c)
+overflow_add-count c = let o = at_most_one c.shade-count.ensures in omega (arith, c.loop-k, c)
 
 pub loop-k-preserved : goal.loop-k-preserved
 loop-k-preserved c =

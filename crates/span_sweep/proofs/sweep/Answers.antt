@@ -58,7 +58,7 @@ clear_freed-requires c = (c.args.table.now, c.requires)
 pub move_range-requires : goal.move_range-requires
 move_range-requires c =
     let span_bounds : SpanBounds c.args.p c.args.table.now c.args.bits.now c.args.span.start.0 = bounds c.requires.sweepable in
-    omega (arith, span_bounds, c.requires.reads.pages, c.first_block-first.ensures, c.clear_freed.auto.bits)
+    omega (arith, span_bounds, c.requires.reads.pages, c.first_block-first.ensures, c.clear_freed.new.bits)
 
 pub free_span-requires : goal.free_span-requires
 free_span-requires c =
@@ -75,7 +75,7 @@ returns-then-kept-eq0 c =
     c.move_range.new.ws ≡ swept_bits (lent a.p x a.table.now a.bits.now roots) a.span.start.0 =
     let a = c.args in
     let freed = c.clear_freed in
-    swept_words a.p a.table.now a.bits.now a.span.start.0 c.requires.sweepable _ _ c.first_block-first.ensures (omega arith) freed.last.1.0 c.requires.reads.pages (freed.ensures a.table.now c.requires) c.move_range.ensures in
+    swept_words a.p a.table.now a.bits.now a.span.start.0 c.requires.sweepable _ _ c.first_block-first.ensures (omega arith) freed.new.bits c.requires.reads.pages (freed.ensures a.table.now c.requires) c.move_range.ensures in
     let a = c.args in
     span_freed a.p a.table.now a.bits.now a.span.start.0 c.requires.sweepable counts (omega (arith, c.if-kept-eq0.true)) c.requires.reads.pages c.free_span.ensures swept
 
@@ -94,6 +94,6 @@ returns c =
     c.move_range.new.ws ≡ swept_bits (lent a.p x a.table.now a.bits.now roots) a.span.start.0 =
     let a = c.args in
     let freed = c.clear_freed in
-    swept_words a.p a.table.now a.bits.now a.span.start.0 c.requires.sweepable _ _ c.first_block-first.ensures (omega arith) freed.last.1.0 c.requires.reads.pages (freed.ensures a.table.now c.requires) c.move_range.ensures in
+    swept_words a.p a.table.now a.bits.now a.span.start.0 c.requires.sweepable _ _ c.first_block-first.ensures (omega arith) freed.new.bits c.requires.reads.pages (freed.ensures a.table.now c.requires) c.move_range.ensures in
     let a = c.args in
     span_kept a.p a.table.now a.bits.now a.span.start.0 c.requires.sweepable counts c.if-kept-eq0.false c.make_swept.ensures swept
