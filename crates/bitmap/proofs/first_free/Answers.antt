@@ -4,10 +4,9 @@ use native.Mathlib.Omega.{arith}
 use lib.Bits.{bit_and}
 use lib.Count.{count_trailing_zeros}
 use lib.ListN.{get_or}
-use borrow.Author.Rules.{rules}
 use Rattle.bitmap.proofs.Bits.{trailing_fits}
-use Rattle.bitmap.proofs.Scan.{None, Passed}
-use Rattle.bitmap.proofs.FirstFree.{StartAt, start_first, start_next, free_start, none_before, none_next, scan_free, found_free, none_free}
+use Rattle.bitmap.proofs.Scan.{Passed}
+use Rattle.bitmap.proofs.FirstFree.{start_first, start_next, free_start, none_before, none_next, scan_free, found_free, none_free}
 use Rattle.bitmap.proofs.first_free.Goals as goal
 
 pub loop-at-init : goal.loop-at-init

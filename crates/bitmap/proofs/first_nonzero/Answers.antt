@@ -1,7 +1,4 @@
-use Prim.Native.Nat.{◌-◌, ◌≤◌}
 use native.Mathlib.Omega.{arith}
-use borrow.Author.Rules.{rules}
-use Rattle.bitmap.specs.Search.{Zeros}
 use Rattle.bitmap.proofs.Zeros.{zeros_more}
 use Rattle.bitmap.proofs.first_nonzero.Goals as goal
 

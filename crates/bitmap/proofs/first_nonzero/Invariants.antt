@@ -1,9 +1,6 @@
 -- The invariant: the words from `from` on and before word `at` are 0.
 use Prim.Native.Nat.{◌-◌, ◌≤◌}
-use native.Mathlib.Omega.{arith}
-use borrow.Author.Rules.{rules}
 use Rattle.bitmap.specs.Search.{Zeros}
-use Rattle.bitmap.proofs.Zeros.{zeros_more}
 use Rattle.bitmap.proofs.first_nonzero.Given as goal
 
 abbrev pub invariant-loop-at : goal.invariant-loop-at

@@ -5,7 +5,6 @@ use native.Mathlib.Omega.{arith}
 use lib.Bits.{bit_and}
 use lib.Count.{count_trailing_zeros}
 use lib.ListN.{get_or}
-use borrow.Author.Rules.{rules}
 use Rattle.model.specs.Bitmaps.{bit_at}
 use Rattle.bitmap.proofs.Bits.{trailing_fits, trailing_some}
 use Rattle.bitmap.proofs.Scan.{None, Passed, whole_word}

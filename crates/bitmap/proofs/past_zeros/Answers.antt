@@ -1,7 +1,4 @@
-use Prim.Native.Nat.{◌-◌, ◌≤◌}
 use native.Mathlib.Omega.{arith}
-use borrow.Author.Rules.{rules}
-use Rattle.bitmap.specs.Search.{Zeros}
 use Rattle.bitmap.proofs.Zeros.{four_more}
 use Rattle.bitmap.proofs.past_zeros.Goals as goal
 

@@ -3,7 +3,6 @@ use Prim.Native.Nat.{◌%◌}
 use native.Mathlib.Omega.{arith}
 use Rattle.model.specs.Bitmaps.{with_bit, with_bit_of}
 use Rattle.bitmap.proofs.Bits.{one_up}
-use borrow.Author.Rules.{rules}
 use Rattle.bitmap.proofs.set.Goals as goal
 
 pub returns : goal.returns

@@ -1,12 +1,8 @@
 -- `bitmap_range::copy_words` meets its contract. The invariant: k is at most n, and the list is as it was with the first k of the n words copied.
-use Prim.Native.Nat.{ℕ, ◌≤◌, ◌<◌, ◌-◌, ◌+◌}
-use mathlib.Core.List.{List}
-use mathlib.Core.Path.{◌≡◌, refl, sym, ◌∙◌, ap}
-use native.Mathlib.Omega.{arith}
-use lib.ListN.{length, length-set, set, get_or}
+use Prim.Native.Nat.{◌≤◌, ◌-◌, ◌+◌}
+use mathlib.Core.Path.{◌≡◌}
+use lib.ListN.{length, get_or}
 use Rattle.model.specs.Memory.{put_words}
-use Rattle.model.proofs.Bounded.{run_none, run_step, within_high}
-use Rattle.model.proofs.Words.{words_at_lem}
 use Rattle.bitmap_range.proofs.copy_words.Given as goal
 
 abbrev pub invariant-loop-k : goal.invariant-loop-k

@@ -1,12 +1,10 @@
-use Prim.Native.Nat.{ℕ, ◌≤◌, ◌<◌, ◌-◌, ◌+◌, ◌*◌, ◌^◌}
+use Prim.Native.Nat.{ℕ, ◌≤◌, ◌<◌, ◌+◌, ◌*◌, ◌^◌}
 use mathlib.Core.Path.{◌≡◌, sym, ◌∙◌, ap}
 use native.Mathlib.Omega.{arith}
 use lib.ListN.{get_or}
 use mir.Syntax.{w64}
 use mir.Val.{Fits}
 use lib.Count.{ones, ones-le}
-use Rattle.model.specs.Bounded.{count_below}
-use Rattle.model.specs.Bitmaps.{bit_at}
 use Rattle.model.proofs.Bounded.{count_none, count_bound}
 use Rattle.bitmap_range.proofs.Bits.{count_word}
 use Rattle.bitmap_range.proofs.count_range.Goals as goal

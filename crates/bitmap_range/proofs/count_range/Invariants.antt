@@ -1,15 +1,8 @@
 -- `bitmap_range::count_range` meets its contract. The invariant: k is at most n, and `total` is the number of bits that are on in the first k words.
-use Prim.Native.Nat.{ℕ, ◌≤◌, ◌<◌, ◌-◌, ◌+◌, ◌*◌, ◌^◌}
-use mathlib.Core.Path.{◌≡◌, sym, ◌∙◌, ap}
-use native.Mathlib.Omega.{arith}
-use lib.ListN.{get_or}
-use mir.Syntax.{w64}
-use mir.Val.{Fits}
-use lib.Count.{ones, ones-le}
+use Prim.Native.Nat.{◌≤◌, ◌-◌, ◌+◌, ◌*◌}
+use mathlib.Core.Path.{◌≡◌}
 use Rattle.model.specs.Bounded.{count_below}
 use Rattle.model.specs.Bitmaps.{bit_at}
-use Rattle.model.proofs.Bounded.{count_none, count_bound}
-use Rattle.bitmap_range.proofs.Bits.{count_word}
 use Rattle.bitmap_range.proofs.count_range.Given as goal
 
 abbrev pub invariant-loop-k : goal.invariant-loop-k

@@ -1,8 +1,7 @@
-use Prim.Native.Nat.{◌≤◌, ◌-◌, ◌+◌}
+use Prim.Native.Nat.{◌+◌}
 use mathlib.Core.Path.{◌≡◌, refl, sym, ◌∙◌, ap}
 use native.Mathlib.Omega.{arith}
-use lib.ListN.{length, length-set, set}
-use Rattle.model.specs.Memory.{put_words}
+use lib.ListN.{length-set, set}
 use Rattle.model.proofs.Bounded.{run_none, run_step}
 use Rattle.bitmap_range.proofs.fill_words.Goals as goal
 

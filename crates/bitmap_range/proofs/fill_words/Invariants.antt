@@ -1,10 +1,8 @@
 -- `bitmap_range::fill_words` meets its contract. The invariant: k is at most n, and the list is as it was with the first k of the n words set.
-use Prim.Native.Nat.{◌≤◌, ◌-◌, ◌+◌}
-use mathlib.Core.Path.{◌≡◌, refl, sym, ◌∙◌, ap}
-use native.Mathlib.Omega.{arith}
-use lib.ListN.{length, length-set, set}
+use Prim.Native.Nat.{◌≤◌, ◌-◌}
+use mathlib.Core.Path.{◌≡◌}
+use lib.ListN.{length}
 use Rattle.model.specs.Memory.{put_words}
-use Rattle.model.proofs.Bounded.{run_none, run_step}
 use Rattle.bitmap_range.proofs.fill_words.Given as goal
 
 abbrev pub invariant-loop-k : goal.invariant-loop-k

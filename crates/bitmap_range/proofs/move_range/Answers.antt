@@ -1,6 +1,5 @@
 -- `bitmap_range::move_range` meets its contract. Words copied and then cleared are runs of bits.
 use Rattle.bitmap_range.proofs.Ranges.{move_bits}
-use borrow.Author.Rules.{rules}
 use Rattle.bitmap_range.proofs.move_range.Goals as goal
 
 pub returns : goal.returns

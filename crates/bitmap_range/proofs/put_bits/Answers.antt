@@ -7,7 +7,6 @@ use lib.Bits.{bit_or, bit_and}
 use Rattle.model.specs.Bounded.{write_run}
 use Rattle.model.specs.Bitmaps.{with_bit_of}
 use Rattle.bitmap_range.proofs.Ranges.{mask_of, mask_shifted, put_mask}
-use borrow.Author.Rules.{rules}
 use Rattle.bitmap_range.proofs.put_bits.Goals as goal
 
 -- the code's mask, put over the word or taken away

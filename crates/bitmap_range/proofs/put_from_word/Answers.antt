@@ -6,7 +6,6 @@ use Rattle.model.specs.Bounded.{write_run}
 use Rattle.model.specs.Memory.{put_words}
 use Rattle.model.specs.Bitmaps.{with_bit}
 use Rattle.bitmap_range.proofs.Ranges.{fill_bits, run_into_word}
-use borrow.Author.Rules.{rules}
 use Rattle.bitmap_range.proofs.put_from_word.Goals as goal
 
 pub returns-then-rest-eq0 : goal.returns-then-rest-eq0

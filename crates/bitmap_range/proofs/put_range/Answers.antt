@@ -4,7 +4,6 @@ use native.Mathlib.Omega.{arith}
 use lib.ListN.{length-set}
 use Rattle.model.proofs.Bounded.{run_none}
 use Rattle.bitmap_range.proofs.Ranges.{run_in_first, run_past_first}
-use borrow.Author.Rules.{rules}
 use Rattle.bitmap_range.proofs.put_range.Goals as goal
 
 pub returns-then-n-eq0 : goal.returns-then-n-eq0

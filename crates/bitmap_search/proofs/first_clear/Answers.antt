@@ -4,10 +4,9 @@ use lib.Bits.{bit_and}
 use lib.Count.{count_trailing_zeros}
 use lib.ListN.{get_or}
 use Rattle.bitmap.proofs.Bits.{trailing_fits}
-use Rattle.bitmap.proofs.Scan.{None, Passed, whole_word}
-use Rattle.bitmap.proofs.Search.{Masked, masked_first, masked_next, pass_from, none_passed, found, none_found}
+use Rattle.bitmap.proofs.Scan.{Passed, whole_word}
+use Rattle.bitmap.proofs.Search.{masked_first, masked_next, pass_from, none_passed, found, none_found}
 use Rattle.bitmap_search.proofs.Search.{is_clear, scan_clear}
-use borrow.Author.Rules.{rules}
 use Rattle.bitmap_search.proofs.first_clear.Goals as goal
 
 pub loop-at-init : goal.loop-at-init

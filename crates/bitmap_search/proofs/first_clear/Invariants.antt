@@ -1,14 +1,8 @@
 -- The invariant: no clear bit from `from` on lies in the words before word number `at`, and the mask is that word's.
-use Prim.Native.Nat.{◌-◌, ◌*◌, ◌^◌}
-use native.Mathlib.Omega.{arith}
-use lib.Bits.{bit_and}
-use lib.Count.{count_trailing_zeros}
-use lib.ListN.{get_or}
-use Rattle.bitmap.proofs.Bits.{trailing_fits}
-use Rattle.bitmap.proofs.Scan.{None, Passed, whole_word}
-use Rattle.bitmap.proofs.Search.{Masked, masked_first, masked_next, pass_from, none_passed, found, none_found}
-use Rattle.bitmap_search.proofs.Search.{is_clear, scan_clear}
-use borrow.Author.Rules.{rules}
+use Prim.Native.Nat.{◌-◌, ◌*◌}
+use Rattle.bitmap.proofs.Scan.{None}
+use Rattle.bitmap.proofs.Search.{Masked, pass_from}
+use Rattle.bitmap_search.proofs.Search.{is_clear}
 use Rattle.bitmap_search.proofs.first_clear.Given as goal
 
 abbrev pub invariant-loop-at : goal.invariant-loop-at

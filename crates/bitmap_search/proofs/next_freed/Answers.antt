@@ -5,11 +5,10 @@ use lib.Count.{count_trailing_zeros}
 use lib.ListN.{get_or}
 use Rattle.model.specs.Memory.{word_bits, page_blocks, marked_part}
 use Rattle.bitmap.proofs.Bits.{trailing_fits}
-use Rattle.bitmap.proofs.Scan.{None, Passed, whole_word}
-use Rattle.bitmap.proofs.Search.{Masked, masked_first, masked_next, pass_from, none_passed, found, none_found}
+use Rattle.bitmap.proofs.Scan.{Passed, whole_word}
+use Rattle.bitmap.proofs.Search.{masked_first, masked_next, pass_from, none_passed, found, none_found}
 use Rattle.bitmap_search.specs.Freed.{is_freed}
 use Rattle.bitmap_search.proofs.Search.{scan_freed}
-use borrow.Author.Rules.{rules}
 use Rattle.bitmap_search.proofs.next_freed.Goals as goal
 
 pub loop-at-init : goal.loop-at-init

@@ -1,7 +1,6 @@
 -- `class_lookup::class_of` meets its contract: the size of the entry is the size rounded up to whole steps of its table.
 use mathlib.Core.Path.{◌∙◌}
 use native.Mathlib.Omega.{arith}
-use borrow.Author.Rules.{rules}
 use borrow.Author.Tests.{lt-ltb}
 use Rattle.model.specs.Classes.{max_small, class_of}
 use Rattle.class_lookup.proofs.Rounding.{fine_rounded, coarse_rounded}

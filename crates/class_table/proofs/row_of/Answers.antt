@@ -3,7 +3,6 @@ use Prim.Native.Nat.{ℕ, ◌-◌, ◌/◌}
 use mathlib.Core.List.{map}
 use mathlib.Core.Path.{◌≡◌}
 use lib.ListN.{get_or, get_or-map}
-use borrow.Author.Rules.{rules}
 use Rattle.model.specs.declared.ClassRow.{ClassRow}
 use Rattle.model.specs.Memory.{page_bytes, word_bytes}
 use Rattle.model.specs.Classes.{◌per◌, class_rows, element_bytes, span_bytes, class_pages}

@@ -1,6 +1,5 @@
 -- `classes::element_words` meets its contract.
 use borrow.Author.Tests.{eq-eqb, ne_eqb}
-use borrow.Author.Rules.{rules}
 use Rattle.model.specs.Classes.{element_words_of}
 use Rattle.classes.proofs.element_words.Goals as goal
 

@@ -1,6 +1,5 @@
 -- `classes::kind_of` meets its contract.
 use native.Mathlib.Omega.{arith}
-use borrow.Author.Rules.{rules}
 use borrow.Author.Tests.{eq-eqb, ne_eqb}
 use Rattle.classes.proofs.kind_of.Goals as goal
 

@@ -1,6 +1,5 @@
 -- `classes::layout_of` meets its contract. No class has an element of 0 words.
 use native.Mathlib.Omega.{arith}
-use borrow.Author.Rules.{rules}
 use borrow.Author.Tests.{eq-eqb}
 use Rattle.model.specs.Classes.{element_words_of, elements_of}
 use Rattle.class_table.proofs.Rows.{row_facts, row_layout}

@@ -3,7 +3,6 @@
 use mathlib.Core.Logic.{◌≢◌}
 use mathlib.Core.Path.{◌≡◌}
 use native.Mathlib.Omega.{arith}
-use borrow.Author.Rules.{rules}
 use Rattle.model.specs.Classes.{class_of, kind_of, pages_for}
 use Rattle.model.proofs.Classes.{class_within, class_zero, large_pages, small_pages, large_words, small_words}
 use Rattle.classes.proofs.shape_of.Goals as goal

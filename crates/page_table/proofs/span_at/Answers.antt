@@ -2,7 +2,6 @@
 use Prim.Native.Nat.{◌+◌, ◌*◌}
 use mathlib.Core.Path.{refl}
 use native.Mathlib.Omega.{arith}
-use borrow.Author.Rules.{rules}
 use Rattle.model.specs.Memory.{entry_numbers, count_offset}
 use Rattle.model.specs.Spans.{page_count}
 use Rattle.page_table.proofs.span_at.Goals as goal

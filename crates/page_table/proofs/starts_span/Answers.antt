@@ -1,5 +1,4 @@
 -- `page_table::starts_span` meets its contract.
-use borrow.Author.Rules.{rules}
 use Rattle.page_table.proofs.starts_span.Goals as goal
 
 pub returns : goal.returns

@@ -1,7 +1,5 @@
-use Prim.Native.Nat.{◌-◌}
-use lib.ListN.{length}
 use borrow.Author.Rules.{rules}
-use Rattle.zeroing.proofs.Zeroed.{Zeroed, none_zeroed, one_zeroed, all_zeroed}
+use Rattle.zeroing.proofs.Zeroed.{none_zeroed, one_zeroed, all_zeroed}
 use Rattle.zeroing.proofs.zero.Goals as goal
 
 pub loop-i-init : goal.loop-i-init

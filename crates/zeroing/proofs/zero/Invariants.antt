@@ -1,8 +1,7 @@
 -- `zeroing::zero` meets its contract. The measure is what is left of the length.
 use Prim.Native.Nat.{◌-◌}
 use lib.ListN.{length}
-use borrow.Author.Rules.{rules}
-use Rattle.zeroing.proofs.Zeroed.{Zeroed, none_zeroed, one_zeroed, all_zeroed}
+use Rattle.zeroing.proofs.Zeroed.{Zeroed}
 use Rattle.zeroing.proofs.zero.Given as goal
 
 abbrev pub invariant-loop-i : goal.invariant-loop-i

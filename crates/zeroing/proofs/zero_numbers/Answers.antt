@@ -1,7 +1,5 @@
-use Prim.Native.Nat.{◌-◌}
-use lib.ListN.{length}
 use borrow.Author.Rules.{rules}
-use Rattle.zeroing.proofs.Zeroed.{Zeroed, none_zeroed, one_zeroed, all_zeroed}
+use Rattle.zeroing.proofs.Zeroed.{none_zeroed, one_zeroed, all_zeroed}
 use Rattle.zeroing.proofs.zero_numbers.Goals as goal
 
 pub loop-k-init : goal.loop-k-init

@@ -1,8 +1,7 @@
 -- `zeroing::zero_numbers` meets its contract. The measure is what is left of the length.
 use Prim.Native.Nat.{◌-◌}
 use lib.ListN.{length}
-use borrow.Author.Rules.{rules}
-use Rattle.zeroing.proofs.Zeroed.{Zeroed, none_zeroed, one_zeroed, all_zeroed}
+use Rattle.zeroing.proofs.Zeroed.{Zeroed}
 use Rattle.zeroing.proofs.zero_numbers.Given as goal
 
 abbrev pub invariant-loop-k : goal.invariant-loop-k

@@ -2,7 +2,6 @@
 use Prim.Native.Nat.{◌+◌, ◌-◌}
 use mathlib.Core.Path.{◌≡◌}
 use native.Mathlib.Omega.{arith}
-use borrow.Author.Rules.{rules}
 use borrow.Rule.Slice.PartMut.{mid_len, Post-is}
 use Rattle.zeroing.proofs.Runs.{constant_run}
 use Rattle.zeroing.proofs.zero_part.Goals as goal

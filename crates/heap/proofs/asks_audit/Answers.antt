@@ -1,0 +1,11 @@
+-- `heap::asks_audit` meets its contract: setup does not, and each other call does.
+use mathlib.Core.Path.{sym}
+use Rattle.heap.proofs.Asks.{asks}
+use borrow.Author.Rules.{rules}
+use Rattle.heap.proofs.asks_audit.Goals as goal
+
+pub returns-in-Setup : goal.returns-in-Setup
+returns-in-Setup c = rw c.enum_told-1.given.1
+
+pub returns-in_default : goal.returns-in_default
+returns-in_default c = sym (asks c.args.call c.in-Setup.keys2)
