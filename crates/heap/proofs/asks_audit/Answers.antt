@@ -5,7 +5,7 @@ use borrow.Author.Rules.{rules}
 use Rattle.heap.proofs.asks_audit.Goals as goal
 
 pub returns-in-Setup : goal.returns-in-Setup
-returns-in-Setup c = rw c.enum_told-1.given.1
+returns-in-Setup c = rw c.in-Setup.is
 
 pub returns-in_default : goal.returns-in_default
-returns-in_default c = sym (asks c.args.call c.in-Setup.keys2)
+returns-in_default c = sym (asks c.args.call c.in_default.not-Setup)
