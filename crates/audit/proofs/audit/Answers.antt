@@ -8,7 +8,6 @@ use Rattle.audit_pages.specs.Pass.{GoodPages}
 use Rattle.audit_bits.specs.Words.{GoodBits}
 use Rattle.audit.proofs.Joined.{refused, decided, filled, told, joined, paged, ruled}
 use lib.ListN.{get_or}
-use borrow.Author.Rules.{rules}
 use Rattle.audit.proofs.audit.Goals as goal
 
 pub returns-then-not-states_ok : goal.returns-then-not-states_ok

@@ -1,6 +1,5 @@
 use native.Mathlib.Omega.{arith}
 use Rattle.audit.proofs.Refusals.{last_length}
-use borrow.Author.Rules.{rules}
 use Rattle.audit.proofs.buffers_ok.Goals as goal
 
 pub returns-then-p-lt1 : goal.returns-then-p-lt1

@@ -1,6 +1,5 @@
 use Rattle.model.proofs.Answers.{yes, no}
 use Rattle.audit.proofs.Refusals.{bad_lengths, good_lengths}
-use borrow.Author.Rules.{rules}
 use Rattle.audit.proofs.buffers_refusal.Goals as goal
 
 pub returns-then-not-buffers_ok : goal.returns-then-not-buffers_ok

@@ -1,10 +1,8 @@
 use mathlib.Core.Path.{◌≡◌, sym, ◌∙◌}
 use Rattle.model.specs.Memory.{lent}
 use Rattle.model.specs.Checks.{buffers_refusal}
-use borrow.Author.Tests.{not-true, not-false}
 use Rattle.model.proofs.Checks.{lengths_passed}
 use Rattle.audit.proofs.Refusals.{refused_lengths, damaged_buffers, good_entry}
-use borrow.Author.Rules.{rules}
 use Rattle.audit.proofs.entry.Goals as goal
 
 pub returns-then-refusal-ne0 : goal.returns-then-refusal-ne0

@@ -1,6 +1,5 @@
 -- A word of ones moved up by `left` bits and turned has the bits below them.
 use native.Mathlib.Omega.{arith}
-use borrow.Author.Rules.{rules}
 use borrow.Author.Tests.{lt-ltb}
 use mathlib.Core.Path.{sym, ◌∙◌}
 use Rattle.audit_bits.proofs.Masks.{on_below, on_all}

@@ -1,9 +1,7 @@
 -- A block without bits keeps every rule; of another the two tests together are the rules of its words.
 use native.Mathlib.Omega.{arith}
-use borrow.Author.Tests.{not-true, not-false}
 use mathlib.Core.Path.{sym, ◌∙◌}
 use Rattle.audit_bits.proofs.Blocks.{empty_keeps, colours_fail, colours_pass}
-use borrow.Author.Rules.{rules}
 use Rattle.audit_bits.proofs.block_ok.Goals as goal
 
 pub returns-then-empty : goal.returns-then-empty

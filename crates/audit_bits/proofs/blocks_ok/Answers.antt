@@ -1,12 +1,11 @@
-use Prim.Native.Nat.{◌+◌, ◌-◌, ◌*◌, ◌≤◌}
+use Prim.Native.Nat.{◌+◌, ◌*◌}
 use mathlib.Core.Path.{◌≡◌}
-use Rattle.model.specs.Memory.{page_words, page_blocks, word_bits}
+use Rattle.model.specs.Memory.{page_words, word_bits}
 use Rattle.model.specs.Bounded.{all_below}
 use native.Mathlib.Omega.{arith}
 use borrow.Author.Rules.{rules}
-use borrow.Author.Tests.{not-true, not-false}
 use Rattle.audit_bits.specs.Rules.{word_rule}
-use Rattle.audit_bits.proofs.Turns.{Stands, stands_first, stands_next, block_words, fails, passes}
+use Rattle.audit_bits.proofs.Turns.{stands_first, stands_next, block_words, fails, passes}
 use Rattle.audit_bits.proofs.blocks_ok.Goals as goal
 
 pub loop-k-init : goal.loop-k-init

@@ -1,13 +1,7 @@
 -- The invariant: the words of k blocks keep the rules of the span, and off, left and before are as `Stands` says at block k.
-use Prim.Native.Nat.{◌+◌, ◌-◌, ◌*◌, ◌≤◌}
-use mathlib.Core.Path.{◌≡◌}
-use Rattle.model.specs.Memory.{page_words, page_blocks, word_bits}
-use Rattle.model.specs.Bounded.{all_below}
-use native.Mathlib.Omega.{arith}
-use borrow.Author.Rules.{rules}
-use borrow.Author.Tests.{not-true, not-false}
-use Rattle.audit_bits.specs.Rules.{word_rule}
-use Rattle.audit_bits.proofs.Turns.{Stands, stands_first, stands_next, block_words, fails, passes}
+use Prim.Native.Nat.{◌-◌, ◌*◌, ◌≤◌}
+use Rattle.model.specs.Memory.{page_blocks}
+use Rattle.audit_bits.proofs.Turns.{Stands}
 use Rattle.audit_bits.proofs.blocks_ok.Given as goal
 
 abbrev pub invariant-loop-k : goal.invariant-loop-k

@@ -1,7 +1,6 @@
 -- The four words joined are 0 where no word of the block has a bit.
 use native.Mathlib.Omega.{arith}
 use Rattle.audit_bits.proofs.Masks.{empty_block}
-use borrow.Author.Rules.{rules}
 use Rattle.audit_bits.proofs.empty.Goals as goal
 
 pub returns : goal.returns

@@ -1,11 +1,9 @@
-use Prim.Native.Nat.{ℕ, ◌+◌, ◌-◌, ◌*◌, ◌<◌, ◌≤◌}
+use Prim.Native.Nat.{◌+◌, ◌*◌}
 use mathlib.Core.Path.{◌≡◌, ◌∙◌}
 use Rattle.model.specs.Memory.{page_words, page_blocks, word_bits}
 use Rattle.model.specs.Bounded.{all_below}
 use native.Mathlib.Omega.{arith}
-use lib.Dec.{T}
 use borrow.Author.Rules.{rules}
-use borrow.Author.Tests.{not-true, not-false}
 use Rattle.audit_bits.specs.Rules.{bare}
 use Rattle.audit_bits.proofs.Turns.{more, fails, passes, block_from}
 use Rattle.audit_bits.proofs.free_page_ok.Goals as goal

@@ -1,14 +1,8 @@
 -- The invariant: k blocks of the page have no bit.
 use Prim.Native.Nat.{ℕ, ◌+◌, ◌-◌, ◌*◌, ◌<◌, ◌≤◌}
-use mathlib.Core.Path.{◌≡◌, ◌∙◌}
-use Rattle.model.specs.Memory.{page_words, page_blocks, word_bits}
-use Rattle.model.specs.Bounded.{all_below}
-use native.Mathlib.Omega.{arith}
+use Rattle.model.specs.Memory.{page_blocks, word_bits}
 use lib.Dec.{T}
-use borrow.Author.Rules.{rules}
-use borrow.Author.Tests.{not-true, not-false}
 use Rattle.audit_bits.specs.Rules.{bare}
-use Rattle.audit_bits.proofs.Turns.{more, fails, passes, block_from}
 use Rattle.audit_bits.proofs.free_page_ok.Given as goal
 
 abbrev pub invariant-loop-k : goal.invariant-loop-k

@@ -1,5 +1,4 @@
 -- The first set bit of the span's words in the allocated part, the first of the four.
-use borrow.Author.Rules.{rules}
 use native.Mathlib.Omega.{arith}
 use Rattle.audit_bits.proofs.Stretches.{set_found}
 use Rattle.audit_bits.proofs.occupied.Goals as goal

@@ -1,5 +1,4 @@
 -- The span lies in the arena, and its kind has a class; marks and gray bits may stand in it as the phase says.
-use borrow.Author.Rules.{rules}
 use native.Mathlib.Omega.{arith}
 use mathlib.Core.Bool.{Bool, ◌&&◌}
 use mathlib.Core.List.{List}

@@ -1,6 +1,5 @@
 -- The mask moved up; where the first start lies behind the block there is none.
 use native.Mathlib.Omega.{arith}
-use borrow.Author.Rules.{rules}
 use borrow.Author.Tests.{lt-leb}
 use Rattle.audit_bits.proofs.Masks.{on_up, on_none}
 use Rattle.audit_bits.proofs.starts_in.Goals as goal

@@ -1,6 +1,5 @@
 use Rattle.audit_pages.proofs.Pass.{bare_iff}
 use native.Mathlib.Omega.{arith}
-use borrow.Author.Rules.{rules}
 use Rattle.audit_pages.proofs.bare_entry.Goals as goal
 
 pub returns : goal.returns

@@ -1,9 +1,6 @@
 use Rattle.model.proofs.Answers.{yes, no}
-use Rattle.audit_pages.specs.Pass.{Further}
 use Rattle.audit_pages.proofs.Pass.{body_more}
 use native.Mathlib.Omega.{arith}
-use mathlib.Core.Path.{◌≡◌}
-use Prim.Native.Nat.{ℕ, ◌+◌, ◌-◌, ◌<◌}
 use borrow.Author.Rules.{rules}
 use Rattle.audit_pages.proofs.body_ok.Goals as goal
 

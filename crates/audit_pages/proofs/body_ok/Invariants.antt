@@ -1,11 +1,7 @@
 -- The invariant: the span's pages below g but its first are further pages of it.
-use Rattle.model.proofs.Answers.{yes, no}
 use Rattle.audit_pages.specs.Pass.{Further}
-use Rattle.audit_pages.proofs.Pass.{body_more}
-use native.Mathlib.Omega.{arith}
 use mathlib.Core.Path.{◌≡◌}
 use Prim.Native.Nat.{ℕ, ◌+◌, ◌-◌, ◌<◌}
-use borrow.Author.Rules.{rules}
 use Rattle.audit_pages.proofs.body_ok.Given as goal
 
 abbrev pub invariant-loop-g : goal.invariant-loop-g

@@ -1,6 +1,5 @@
 use Rattle.audit_pages.proofs.Pass.{class_entry, large_entry}
 use native.Mathlib.Omega.{arith}
-use borrow.Author.Rules.{rules}
 use Rattle.audit_pages.proofs.entry_ok.Goals as goal
 
 pub returns-then-class-gt-ROWS : goal.returns-then-class-gt-ROWS

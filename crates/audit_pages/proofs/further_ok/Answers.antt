@@ -1,6 +1,5 @@
 use Rattle.audit_pages.proofs.Pass.{further_iff}
 use native.Mathlib.Omega.{arith}
-use borrow.Author.Rules.{rules}
 use Rattle.audit_pages.proofs.further_ok.Goals as goal
 
 pub returns : goal.returns

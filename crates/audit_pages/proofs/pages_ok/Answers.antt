@@ -1,10 +1,9 @@
 use native.Mathlib.Omega.{arith}
 use mathlib.Core.Path.{◌≡◌}
-use Prim.Native.Nat.{◌-◌}
 use borrow.Author.Rules.{rules}
 use Rattle.model.proofs.Answers.{yes, no}
 use Rattle.audit_pages.specs.Pass.{GoodSpan}
-use Rattle.audit_pages.proofs.Pass.{Upto, upto_first, free_step, span_step, stray, whole, first_of, first_count}
+use Rattle.audit_pages.proofs.Pass.{upto_first, free_step, span_step, stray, whole, first_of, first_count}
 use Rattle.audit_pages.proofs.Stretches.{reads_own, own_span}
 use Rattle.audit_pages.proofs.pages_ok.Goals as goal
 

@@ -1,7 +1,6 @@
 -- A state that is neither gray nor scanned is not legal.
 use Rattle.audit_pages.proofs.Stacks.{globals_gray, globals_scanned}
 use native.Mathlib.Omega.{arith}
-use borrow.Author.Rules.{rules}
 use Rattle.audit_pages.proofs.phase_ok.Goals as goal
 
 pub returns-then-state-eq-GRAY : goal.returns-then-state-eq-GRAY

@@ -1,10 +1,6 @@
 use borrow.Author.Count.{below_none, below_more}
-use lib.ListN.{get_or}
 use native.Mathlib.Omega.{arith}
-use mathlib.Core.Path.{◌≡◌}
-use Prim.Native.Nat.{ℕ, ◌+◌, ◌*◌, ◌-◌, ◌<◌, ◌≤◌}
 use borrow.Author.Rules.{rules}
-use Rattle.model.specs.Memory.{slot_count}
 use Rattle.audit_pages.proofs.slots_nil.Goals as goal
 
 pub loop-i-init : goal.loop-i-init

@@ -1,10 +1,7 @@
 -- The invariant: the slots below i are nil.
-use borrow.Author.Count.{below_none, below_more}
 use lib.ListN.{get_or}
-use native.Mathlib.Omega.{arith}
 use mathlib.Core.Path.{◌≡◌}
 use Prim.Native.Nat.{ℕ, ◌+◌, ◌*◌, ◌-◌, ◌<◌, ◌≤◌}
-use borrow.Author.Rules.{rules}
 use Rattle.model.specs.Memory.{slot_count}
 use Rattle.audit_pages.proofs.slots_nil.Given as goal
 

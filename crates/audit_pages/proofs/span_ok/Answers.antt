@@ -1,7 +1,6 @@
 use native.Mathlib.Omega.{arith}
 use Rattle.audit_pages.proofs.Pass.{bad_entry, bad_flag, span_iff}
 use Rattle.model.proofs.Answers.{yes}
-use borrow.Author.Rules.{rules}
 use Rattle.audit_pages.proofs.span_ok.Goals as goal
 
 pub returns-then-not-entry_ok : goal.returns-then-not-entry_ok

@@ -1,5 +1,4 @@
 use Rattle.audit_pages.proofs.Stacks.{stack_closed, stack_gray, stack_scanned_lem}
-use borrow.Author.Rules.{rules}
 use Rattle.audit_pages.proofs.stack_ok.Goals as goal
 
 pub returns-then-state-eq-CLOSED : goal.returns-then-state-eq-CLOSED

@@ -1,11 +1,7 @@
 -- The invariant: the stacks below s are as they should be.
 use Rattle.model.specs.Memory.{stack_count}
-use Rattle.model.proofs.Answers.{yes, no}
 use Rattle.audit_pages.specs.Stacks.{GoodStack}
-use borrow.Author.Count.{below_none, below_more}
-use native.Mathlib.Omega.{arith}
 use Prim.Native.Nat.{ℕ, ◌-◌, ◌<◌, ◌≤◌}
-use borrow.Author.Rules.{rules}
 use Rattle.audit_pages.proofs.stacks_ok.Given as goal
 
 abbrev pub invariant-loop-s : goal.invariant-loop-s

@@ -1,6 +1,5 @@
 use Rattle.audit_pages.proofs.Stacks.{states, states_phase, states_stack}
 use Rattle.model.proofs.Answers.{yes, no}
-use borrow.Author.Rules.{rules}
 use Rattle.audit_pages.proofs.states_ok.Goals as goal
 
 pub returns-then-not-phase_ok : goal.returns-then-not-phase_ok

@@ -3,7 +3,6 @@ use mathlib.Core.Logic.{◌≢◌}
 use Rattle.model.specs.Memory.{nil}
 use Rattle.audit_references.proofs.References.{nil_value, not_nil, no_address, past_arena, names_kept}
 use native.Mathlib.Omega.{arith}
-use borrow.Author.Rules.{rules}
 use Rattle.audit_references.proofs.is_reference.Goals as goal
 
 pub returns-then-is_nil : goal.returns-then-is_nil

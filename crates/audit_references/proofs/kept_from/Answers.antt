@@ -1,6 +1,5 @@
 -- The marked bits stand behind the allocated ones.
 use native.Mathlib.Omega.{arith}
-use borrow.Author.Rules.{rules}
 use Rattle.audit_references.proofs.kept_from.Goals as goal
 
 pub returns-then-unswept : goal.returns-then-unswept

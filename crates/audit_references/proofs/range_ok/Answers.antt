@@ -1,6 +1,4 @@
-use Rattle.audit_references.specs.References.{RootRange}
 use Rattle.audit_references.proofs.Ranges.{range_more}
-use Prim.Native.Nat.{◌-◌, ◌≤◌}
 use Rattle.model.proofs.Answers.{yes, no}
 use native.Mathlib.Omega.{arith}
 use borrow.Author.Rules.{rules}

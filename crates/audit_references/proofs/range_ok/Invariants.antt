@@ -1,10 +1,6 @@
 -- The invariant: the roots from `from` on and below i are references.
 use Rattle.audit_references.specs.References.{RootRange}
-use Rattle.audit_references.proofs.Ranges.{range_more}
 use Prim.Native.Nat.{◌-◌, ◌≤◌}
-use Rattle.model.proofs.Answers.{yes, no}
-use native.Mathlib.Omega.{arith}
-use borrow.Author.Rules.{rules}
 use Rattle.audit_references.proofs.range_ok.Given as goal
 
 abbrev pub invariant-loop-i : goal.invariant-loop-i

@@ -3,7 +3,6 @@ use Rattle.model.specs.Memory.{first_global, first_state}
 use Rattle.audit_references.proofs.Ranges.{range_join}
 use Rattle.model.proofs.Answers.{yes, no}
 use native.Mathlib.Omega.{arith}
-use borrow.Author.Rules.{rules}
 use Rattle.audit_references.proofs.roots_ok.Goals as goal
 
 pub returns-then-not-slots_ok : goal.returns-then-not-slots_ok

@@ -1,11 +1,7 @@
 -- The invariant: the slots of the stacks below s are references.
 use Rattle.model.specs.Memory.{slot_count, stack_count}
 use Rattle.audit_references.specs.References.{RootRange}
-use Rattle.audit_references.proofs.Ranges.{range_join, closed_range}
-use Rattle.model.proofs.Answers.{yes, no}
 use Prim.Native.Nat.{◌-◌, ◌*◌, ◌≤◌}
-use native.Mathlib.Omega.{arith}
-use borrow.Author.Rules.{rules}
 use Rattle.audit_references.proofs.slots_ok.Given as goal
 
 abbrev pub invariant-loop-s : goal.invariant-loop-s

@@ -1,16 +1,9 @@
 -- The invariant: the bits that are not left were taken, and their words hold references. The measure: what lies from the lowest bit that is left on.
 use Rattle.model.specs.Memory.{word_bits}
-use Rattle.audit_words.proofs.Blocks.{BitsTaken, taken_none, taken_one, taken_all, low, lowest_on, higher}
-use Rattle.bitmap.proofs.Bits.{one_up}
-use Rattle.model.specs.Bitmaps.{with_bit_of}
-use Rattle.model.proofs.Answers.{yes, no}
-use Rattle.model.proofs.Bitmaps.{with_bit_fits}
+use Rattle.audit_words.proofs.Blocks.{BitsTaken}
 use lib.Count.{count_trailing_zeros}
-use mathlib.Core.Bool.{false}
 use mathlib.Core.Path.{◌≡◌}
 use Prim.Native.Nat.{◌-◌, ◌*◌, ◌^◌, ◌<◌}
-use native.Mathlib.Omega.{arith}
-use borrow.Author.Rules.{rules}
 use Rattle.audit_words.proofs.block_ok.Given as goal
 
 abbrev pub invariant-loop-left : goal.invariant-loop-left

@@ -1,9 +1,5 @@
-use Rattle.model.specs.Memory.{page_blocks, pointer_part}
 use Rattle.audit_words.proofs.Blocks.{blocks_more, blocks_block}
-use Rattle.audit_words.specs.Contents.{BlocksContents}
 use Rattle.model.proofs.Answers.{yes, no}
-use mathlib.Core.Path.{◌≡◌}
-use Prim.Native.Nat.{◌-◌, ◌*◌, ◌≤◌}
 use native.Mathlib.Omega.{arith}
 use borrow.Author.Rules.{rules}
 use Rattle.audit_words.proofs.blocks_ok.Goals as goal

@@ -1,12 +1,8 @@
 -- The invariant: the pointer words of the blocks below k hold references.
 use Rattle.model.specs.Memory.{page_blocks, pointer_part}
-use Rattle.audit_words.proofs.Blocks.{blocks_more, blocks_block}
 use Rattle.audit_words.specs.Contents.{BlocksContents}
-use Rattle.model.proofs.Answers.{yes, no}
 use mathlib.Core.Path.{◌≡◌}
 use Prim.Native.Nat.{◌-◌, ◌*◌, ◌≤◌}
-use native.Mathlib.Omega.{arith}
-use borrow.Author.Rules.{rules}
 use Rattle.audit_words.proofs.blocks_ok.Given as goal
 
 abbrev pub invariant-loop-k : goal.invariant-loop-k

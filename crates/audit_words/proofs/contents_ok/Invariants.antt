@@ -1,16 +1,11 @@
 -- The invariant: g is the beginning of a span or of a free page, or the end; the scan spans before it have references in the pointer words of their
 -- kept elements. A turn passes a free page or a whole span.
-use Prim.Native.Nat.{ℕ, ◌+◌, ◌-◌, ◌<◌, ◌≤◌}
-use native.Mathlib.Omega.{arith}
-use borrow.Author.Rules.{rules}
-use mathlib.Core.Path.{◌≡◌}
+use Prim.Native.Nat.{ℕ, ◌-◌, ◌<◌, ◌≤◌}
 use lib.Dec.{T}
 use Rattle.model.specs.Spans.{is_scan}
 use Rattle.model.specs.Facts.{IsSpan}
-use Rattle.model.proofs.Answers.{yes, no}
-use Rattle.audit_pages.proofs.Stretches.{stretch, Edge, NextStretch, edge_first, begins, next, spans_more, reads_own, own_span, free_pages, span_pages}
+use Rattle.audit_pages.proofs.Stretches.{Edge}
 use Rattle.audit_words.specs.Contents.{SpanContents}
-use Rattle.audit_words.proofs.Contents.{plain_span, each_span, every_span}
 use Rattle.audit_words.proofs.contents_ok.Given as goal
 
 abbrev pub invariant-loop-g : goal.invariant-loop-g

@@ -1,8 +1,6 @@
-use Rattle.audit_words.proofs.Contents.{ContentsBelow, found_range, found_element, found_pointers, next, all}
-use Prim.Native.Nat.{◌+◌, ◌-◌, ◌≤◌}
+use Rattle.audit_words.proofs.Contents.{found_range, found_element, found_pointers, next, all}
 use Rattle.model.proofs.Answers.{yes, no}
 use native.Mathlib.Omega.{arith}
-use borrow.Author.Rules.{rules}
 use Rattle.audit_words.proofs.elements_ok.Goals as goal
 
 pub loop-at-init : goal.loop-at-init

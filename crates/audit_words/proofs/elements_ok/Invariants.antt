@@ -1,9 +1,6 @@
 -- The invariant: the kept elements whose bit stands below `at` have references in their pointer words.
-use Rattle.audit_words.proofs.Contents.{ContentsBelow, found_range, found_element, found_pointers, next, all}
+use Rattle.audit_words.proofs.Contents.{ContentsBelow}
 use Prim.Native.Nat.{◌+◌, ◌-◌, ◌≤◌}
-use Rattle.model.proofs.Answers.{yes, no}
-use native.Mathlib.Omega.{arith}
-use borrow.Author.Rules.{rules}
 use Rattle.audit_words.proofs.elements_ok.Given as goal
 
 abbrev pub invariant-loop-at : goal.invariant-loop-at

@@ -1,19 +1,11 @@
 -- The invariant: the words below f are pointers and hold references.
 use Rattle.model.specs.Memory.{page_words, pointer_part}
-use Rattle.audit_words.proofs.Contents.{pointer_is, stopped}
 use Rattle.model.specs.Facts.{Reference, bit}
-use Rattle.model.proofs.Tests.{is_true}
 use Rattle.model.specs.Bitmaps.{pointer}
-use borrow.Author.Tests.{not-true, not-false}
-use borrow.Author.Count.{below_more}
 use lib.ListN.{get_or}
 use lib.Dec.{T}
-use mathlib.Core.Bool.{true≢false}
-use mathlib.Core.Path.{◌≡◌, sym, ◌∙◌}
+use mathlib.Core.Path.{◌≡◌}
 use Prim.Native.Nat.{ℕ, ◌+◌, ◌*◌, ◌-◌, ◌<◌, ◌≤◌}
-use Rattle.model.proofs.Answers.{yes, no}
-use native.Mathlib.Omega.{arith}
-use borrow.Author.Rules.{rules}
 use Rattle.audit_words.proofs.pointers_ok.Given as goal
 
 abbrev pub invariant-loop-f : goal.invariant-loop-f

@@ -5,7 +5,6 @@ use Rattle.audit_words.proofs.Contents.{read_bounds, read_searched}
 use Rattle.audit_words.proofs.Blocks.{read_swept}
 use native.Mathlib.Omega.{arith}
 use borrow.Author.Tests.{not-true, not-false}
-use borrow.Author.Rules.{rules}
 use Rattle.audit_words.proofs.span_ok.Goals as goal
 
 pub first_block-first-requires : goal.first_block-first-requires

@@ -1,6 +1,5 @@
 -- `c_answer::write_answer` meets its contract: in each case the values that were put are the answer's.
 use mathlib.Core.Path.{refl}
-use borrow.Author.Rules.{rules}
 use Rattle.c_answer.proofs.write_answer.Goals as goal
 
 pub returns-in-Refused : goal.returns-in-Refused

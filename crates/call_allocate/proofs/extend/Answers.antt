@@ -1,6 +1,4 @@
 -- `call_allocate::extend` meets its contract.
-use borrow.Author.Tests.{not-true, not-false}
-use borrow.Author.Rules.{rules}
 use Rattle.call_allocate.proofs.extend.Goals as goal
 
 pub returns-then-not-fresh : goal.returns-then-not-fresh

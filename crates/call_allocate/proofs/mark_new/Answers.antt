@@ -1,5 +1,4 @@
 -- `call_allocate::mark_new` meets its contract.
-use borrow.Author.Rules.{rules}
 use Rattle.model.specs.Memory.{lent}
 use Rattle.call_allocate.proofs.Bits.{bits_marked, bits_plain}
 use Rattle.call_allocate.proofs.mark_new.Goals as goal

@@ -1,7 +1,6 @@
 -- `call_allocate::take` meets its contract.
 use mathlib.Core.Path.{ap}
 use lib.ListN.{set}
-use borrow.Author.Rules.{rules}
 use Rattle.call_allocate.proofs.take.Goals as goal
 
 pub returns : goal.returns

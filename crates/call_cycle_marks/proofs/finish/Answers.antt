@@ -1,6 +1,5 @@
 -- Refused, or every span unswept.
 use Rattle.call_cycle_marks.proofs.Finishing.{flaggable, finish_refused, finished}
-use borrow.Author.Rules.{rules}
 use Rattle.call_cycle_marks.proofs.finish.Goals as goal
 
 pub returns-then-n-ne0 : goal.returns-then-n-ne0

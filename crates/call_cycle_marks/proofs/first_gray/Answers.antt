@@ -1,6 +1,5 @@
 -- The search over the gray part.
 use Rattle.call_cycle_marks.proofs.Marking.{gray_found}
-use borrow.Author.Rules.{rules}
 use Rattle.call_cycle_marks.proofs.first_gray.Goals as goal
 
 pub returns : goal.returns

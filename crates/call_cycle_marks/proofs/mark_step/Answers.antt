@@ -4,7 +4,6 @@ use native.Mathlib.Omega.{arith}
 use Rattle.model.specs.Memory.{Heap, lent}
 use Rattle.model.specs.Cycle.{first_gray}
 use Rattle.call_cycle_marks.proofs.Marking.{first_gray_lem, step_refused, step_none, step_done}
-use borrow.Author.Rules.{rules}
 use Rattle.call_cycle_marks.proofs.mark_step.Goals as goal
 
 pub returns-then-roots-ne-MARK : goal.returns-then-roots-ne-MARK

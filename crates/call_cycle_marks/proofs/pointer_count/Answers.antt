@@ -3,7 +3,6 @@ use mathlib.Core.Path.{◌≡◌}
 use native.Mathlib.Omega.{arith}
 use Rattle.model.specs.Spans.{element_words, span_of}
 use Rattle.call_cycle_marks.proofs.Marking.{Lies, lies, pointers_found}
-use borrow.Author.Rules.{rules}
 use Rattle.call_cycle_marks.proofs.pointer_count.Goals as goal
 
 pub span_with_word-span-requires : goal.span_with_word-span-requires
@@ -25,7 +24,7 @@ pub overflow_add-first-2 : goal.overflow_add-first-2
 overflow_add-first-2 c =
     let place : Lies c.args.p c.args.table.now c.args.w.0 = lies c.requires in
     let size_is : let a = c.args in
-        c.element_words-size.result ≡ element_words a.table.now (span_of a.table.now a.w.0) =
+    c.element_words-size.result ≡ element_words a.table.now (span_of a.table.now a.w.0) =
     rw (c.span_with_word-span.ensures.pages, c.span_with_word-span.ensures.class) at c.element_words-size.ensures in
     omega (arith, size_is, place.inside, c.requires.0)
 
@@ -33,7 +32,7 @@ pub first_clear-requires : goal.first_clear-requires
 first_clear-requires c =
     let place : Lies c.args.p c.args.table.now c.args.w.0 = lies c.requires in
     let size_is : let a = c.args in
-        c.element_words-size.result ≡ element_words a.table.now (span_of a.table.now a.w.0) =
+    c.element_words-size.result ≡ element_words a.table.now (span_of a.table.now a.w.0) =
     rw (c.span_with_word-span.ensures.pages, c.span_with_word-span.ensures.class) at c.element_words-size.ensures in
     omega (arith, size_is, place.inside, c.requires.0)
 
@@ -41,7 +40,7 @@ pub returns : goal.returns
 returns c =
     let place : Lies c.args.p c.args.table.now c.args.w.0 = lies c.requires in
     let size_is : let a = c.args in
-        c.element_words-size.result ≡ element_words a.table.now (span_of a.table.now a.w.0) =
+    c.element_words-size.result ≡ element_words a.table.now (span_of a.table.now a.w.0) =
     rw (c.span_with_word-span.ensures.pages, c.span_with_word-span.ensures.class) at c.element_words-size.ensures in
     let a = c.args in
     pointers_found a.p a.table.now a.bits.now a.w.0 size_is place.inside c.first_clear.ensures

@@ -3,7 +3,6 @@ use mathlib.Core.Bool.{true, false}
 use mathlib.Core.Path.{refl, sym, ◌∙◌}
 use borrow.Author.Tests.{eq-eqb, ne_eqb}
 use Rattle.call_cycle_marks.proofs.Finishing.{roots_is}
-use borrow.Author.Rules.{rules}
 use Rattle.call_cycle_marks.proofs.roots_refusal.Goals as goal
 
 pub returns-then-some_gray : goal.returns-then-some_gray

@@ -5,7 +5,6 @@ use Rattle.shading.proofs.References.{slice_fewer}
 use Rattle.call_cycle_marks.specs.Needs.{Gray}
 use Rattle.call_cycle_marks.proofs.Marking.{lies, gray_record, gray_words, record_scanned}
 use Rattle.model.proofs.Spans.{whole}
-use borrow.Author.Rules.{rules}
 use Rattle.call_cycle_marks.proofs.scan_record.Goals as goal
 
 pub pointer_count-n-requires : goal.pointer_count-n-requires

@@ -1,13 +1,9 @@
 -- The invariant: no stack below `s` is gray.
 use Prim.Native.Nat.{ℕ, ◌-◌, ◌≤◌, ◌<◌}
 use mathlib.Core.Bool.{false}
-use mathlib.Core.Path.{◌≡◌, sym}
-use native.Mathlib.Omega.{arith}
-use borrow.Author.Count.{below_more}
-use borrow.Author.Tests.{eq-eqb, ne_eqb}
+use mathlib.Core.Path.{◌≡◌}
 use Rattle.model.specs.Memory.{stack_count}
-use Rattle.call_cycle_marks.proofs.Finishing.{gray_stack, some_yes, some_no}
-use borrow.Author.Rules.{rules}
+use Rattle.call_cycle_marks.proofs.Finishing.{gray_stack}
 use Rattle.call_cycle_marks.proofs.some_gray.Given as goal
 
 abbrev pub invariant-loop-s : goal.invariant-loop-s

@@ -1,8 +1,7 @@
-use Prim.Native.Nat.{◌-◌, ◌≤◌}
 use mathlib.Core.Path.{◌≡◌}
 use native.Mathlib.Omega.{arith}
 use Rattle.model.specs.Memory.{stack_count}
-use Rattle.call_cycle_roots.proofs.Starting.{Grayed, none_grayed, one_grayed}
+use Rattle.call_cycle_roots.proofs.Starting.{none_grayed, one_grayed}
 use borrow.Author.Rules.{rules}
 use Rattle.call_cycle_roots.proofs.gray_stacks.Goals as goal
 

@@ -1,10 +1,7 @@
 -- The invariant: the first `done` stacks are done.
 use Prim.Native.Nat.{◌-◌, ◌≤◌}
-use mathlib.Core.Path.{◌≡◌}
-use native.Mathlib.Omega.{arith}
 use Rattle.model.specs.Memory.{stack_count}
-use Rattle.call_cycle_roots.proofs.Starting.{Grayed, none_grayed, one_grayed}
-use borrow.Author.Rules.{rules}
+use Rattle.call_cycle_roots.proofs.Starting.{Grayed}
 use Rattle.call_cycle_roots.proofs.gray_stacks.Given as goal
 
 abbrev pub invariant-loop-done : goal.invariant-loop-done

@@ -1,6 +1,5 @@
 -- Scanned already, or all values shaded.
 use Rattle.call_cycle_roots.proofs.Scanning.{scan_none, scan_all}
-use borrow.Author.Rules.{rules}
 use Rattle.call_cycle_roots.proofs.scan.Goals as goal
 
 pub returns-then-roots-at-ne-GRAY : goal.returns-then-roots-at-ne-GRAY

@@ -1,7 +1,6 @@
 -- Refused, or the globals scanned.
 use native.Mathlib.Omega.{arith}
 use Rattle.call_cycle_roots.proofs.Scanning.{scannable, globals_refused, globals_scanned}
-use borrow.Author.Rules.{rules}
 use Rattle.call_cycle_roots.proofs.scan_globals.Goals as goal
 
 pub returns-then-roots-ne-MARK : goal.returns-then-roots-ne-MARK

@@ -1,7 +1,6 @@
 -- The phase, then the stack.
 use borrow.Author.Tests.{eq-eqb, ne_eqb}
 use Rattle.model.specs.Answers.{◌or_else◌}
-use borrow.Author.Rules.{rules}
 use Rattle.call_cycle_roots.proofs.scan_refusal.Goals as goal
 
 pub returns-then-phase-ne0 : goal.returns-then-phase-ne0

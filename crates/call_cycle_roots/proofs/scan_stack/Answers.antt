@@ -3,7 +3,6 @@ use Prim.Native.Nat.{◌<◌}
 use native.Mathlib.Omega.{arith}
 use Rattle.model.specs.Memory.{lent, stack_count}
 use Rattle.call_cycle_roots.proofs.Scanning.{scannable, stack_refused, stack_scanned_lem, stack_below}
-use borrow.Author.Rules.{rules}
 use Rattle.call_cycle_roots.proofs.scan_stack.Goals as goal
 
 pub returns-then-n-ne0 : goal.returns-then-n-ne0
@@ -14,25 +13,25 @@ returns-then-n-ne0 c =
 pub overflow_mul-stack : goal.overflow_mul-stack
 overflow_mul-stack c =
     let below : c.args.s < stack_count =
-        let a = c.args in
-        let x = c.requires.0 in
-        stack_below (lent a.p x a.table.now a.bits.now a.roots.now) a.s (c.scan_refusal-n.ensures a.p x a.table.now a.bits.now) c.if-n-ne0.false in
+    let a = c.args in
+    let x = c.requires.0 in
+    stack_below (lent a.p x a.table.now a.bits.now a.roots.now) a.s (c.scan_refusal-n.ensures a.p x a.table.now a.bits.now) c.if-n-ne0.false in
     omega (arith, below)
 
 pub overflow_add-stack : goal.overflow_add-stack
 overflow_add-stack c =
     let below : c.args.s < stack_count =
-        let a = c.args in
-        let x = c.requires.0 in
-        stack_below (lent a.p x a.table.now a.bits.now a.roots.now) a.s (c.scan_refusal-n.ensures a.p x a.table.now a.bits.now) c.if-n-ne0.false in
+    let a = c.args in
+    let x = c.requires.0 in
+    stack_below (lent a.p x a.table.now a.bits.now a.roots.now) a.s (c.scan_refusal-n.ensures a.p x a.table.now a.bits.now) c.if-n-ne0.false in
     omega (arith, below)
 
 pub scan-requires : goal.scan-requires
 scan-requires c =
     let below : c.args.s < stack_count =
-        let a = c.args in
-        let x = c.requires.0 in
-        stack_below (lent a.p x a.table.now a.bits.now a.roots.now) a.s (c.scan_refusal-n.ensures a.p x a.table.now a.bits.now) c.if-n-ne0.false in
+    let a = c.args in
+    let x = c.requires.0 in
+    stack_below (lent a.p x a.table.now a.bits.now a.roots.now) a.s (c.scan_refusal-n.ensures a.p x a.table.now a.bits.now) c.if-n-ne0.false in
     scannable c.requires.1 _ _ _ (omega (arith, below)) (omega (arith, below))
 
 pub returns : goal.returns

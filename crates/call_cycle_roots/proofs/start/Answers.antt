@@ -2,7 +2,6 @@
 use native.Mathlib.Omega.{arith}
 use lib.ListN.{length-set}
 use Rattle.call_cycle_roots.proofs.Starting.{start_refused, started}
-use borrow.Author.Rules.{rules}
 use Rattle.call_cycle_roots.proofs.start.Goals as goal
 
 pub returns-then-roots-ne-OFF : goal.returns-then-roots-ne-OFF

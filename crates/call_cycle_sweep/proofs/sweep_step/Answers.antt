@@ -1,10 +1,8 @@
 -- Refused, ended, or the first unswept span swept.
-use borrow.Author.Tests.{not-true, not-false}
 use native.Mathlib.Omega.{arith}
 use Rattle.span_sweep.specs.Needs.{SpanRead}
 use Rattle.span_sweep.proofs.Bounds.{bounds}
 use Rattle.call_cycle_sweep.proofs.SweepStep.{readable, step_refused, step_ended, step_swept}
-use borrow.Author.Rules.{rules}
 use Rattle.call_cycle_sweep.proofs.sweep_step.Goals as goal
 
 pub returns-then-roots-ne-SWEEP : goal.returns-then-roots-ne-SWEEP
@@ -19,12 +17,12 @@ returns-then-not-found c =
 
 pub overflow_add-start : goal.overflow_add-start
 overflow_add-start c =
-    let read : SpanRead c.args.p c.args.table.now c.args.bits.now c.first_unswept-first.result.span =     readable c.requires.1 c.first_unswept-first.ensures c.if-not-found.false in
+    let read : SpanRead c.args.p c.args.table.now c.args.bits.now c.first_unswept-first.result.span = readable c.requires.1 c.first_unswept-first.ensures c.if-not-found.false in
     omega (arith, bounds read.sweepable)
 
 pub sweep-swept-requires : goal.sweep-swept-requires
 sweep-swept-requires c =
-    let read : SpanRead c.args.p c.args.table.now c.args.bits.now c.first_unswept-first.result.span =     readable c.requires.1 c.first_unswept-first.ensures c.if-not-found.false in
+    let read : SpanRead c.args.p c.args.table.now c.args.bits.now c.first_unswept-first.result.span = readable c.requires.1 c.first_unswept-first.ensures c.if-not-found.false in
     read
 
 pub returns : goal.returns

@@ -3,7 +3,6 @@ use mathlib.Core.Path.{refl}
 use native.Mathlib.Omega.{arith}
 use Rattle.model.specs.Memory.{Heap, lent}
 use Rattle.call_records.proofs.Accesses.{Access, get_of_pointer, get_refused, number_access, got}
-use borrow.Author.Rules.{rules}
 use Rattle.call_records.proofs.get.Goals as goal
 
 pub find-requires : goal.find-requires

@@ -3,7 +3,6 @@ use mathlib.Core.Path.{refl}
 use native.Mathlib.Omega.{arith}
 use Rattle.model.specs.Memory.{Heap, lent}
 use Rattle.call_records.proofs.Accesses.{Access, load_of_number, load_refused, pointer_access, loaded}
-use borrow.Author.Rules.{rules}
 use Rattle.call_records.proofs.load.Goals as goal
 
 pub find-requires : goal.find-requires

@@ -3,7 +3,6 @@ use mathlib.Core.Path.{refl}
 use native.Mathlib.Omega.{arith}
 use Rattle.model.specs.Memory.{Heap, lent}
 use Rattle.call_records.proofs.Accesses.{Access, put_to_pointer, put_refused, number_access, put_there}
-use borrow.Author.Rules.{rules}
 use Rattle.call_records.proofs.put.Goals as goal
 
 pub find-requires : goal.find-requires

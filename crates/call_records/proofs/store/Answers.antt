@@ -3,7 +3,6 @@ use mathlib.Core.Path.{refl}
 use native.Mathlib.Omega.{arith}
 use Rattle.model.specs.Memory.{Heap, lent}
 use Rattle.call_records.proofs.Accesses.{Access, store_to_number, store_refused, pointer_access, pointer_stored, stored}
-use borrow.Author.Rules.{rules}
 use Rattle.call_records.proofs.store.Goals as goal
 
 pub find-requires : goal.find-requires

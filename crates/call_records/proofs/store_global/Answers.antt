@@ -9,7 +9,6 @@ use Rattle.model.specs.Records.{store_global}
 use Rattle.model.proofs.Outcomes.{refused, not_refused}
 use Rattle.root_checks.proofs.Passed.{global_bounds}
 use Rattle.call_records.proofs.Accesses.{roots_stored}
-use borrow.Author.Rules.{rules}
 use Rattle.call_records.proofs.store_global.Goals as goal
 
 pub global_refusal-n-requires : goal.global_refusal-n-requires

@@ -2,7 +2,6 @@
 use mathlib.Core.Path.{refl, ap}
 use lib.ListN.{set}
 use Rattle.model.specs.Memory.{globals_state_at, open_state}
-use borrow.Author.Rules.{rules}
 use Rattle.call_setup.proofs.setup.Goals as goal
 
 pub returns : goal.returns

@@ -5,7 +5,6 @@ use Rattle.model.specs.Memory.{lent}
 use Rattle.model.proofs.Outcomes.{refused, not_refused}
 use Rattle.model.specs.Records.{clear}
 use Rattle.root_checks.proofs.Passed.{slot_bounds}
-use borrow.Author.Rules.{rules}
 use Rattle.call_stacks.proofs.clear.Goals as goal
 
 pub returns-then-n-ne0 : goal.returns-then-n-ne0

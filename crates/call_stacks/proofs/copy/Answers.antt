@@ -6,7 +6,6 @@ use Rattle.model.specs.Memory.{lent, stack_count, slot_count}
 use Rattle.model.proofs.Outcomes.{refused, not_refused}
 use Rattle.model.specs.Records.{copy}
 use Rattle.root_checks.proofs.Passed.{slots_bounds}
-use borrow.Author.Rules.{rules}
 use Rattle.call_stacks.proofs.copy.Goals as goal
 
 pub returns-then-n-ne0 : goal.returns-then-n-ne0

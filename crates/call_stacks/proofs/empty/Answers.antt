@@ -1,7 +1,6 @@
 -- The words that `zero_part` clears are the slots.
 use native.Mathlib.Nat.{add-zero}
 use Rattle.model.specs.Records.{emptied}
-use borrow.Author.Rules.{rules}
 use Rattle.call_stacks.proofs.empty.Goals as goal
 
 pub returns : goal.returns

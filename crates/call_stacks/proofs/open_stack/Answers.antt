@@ -4,7 +4,6 @@ use Rattle.model.specs.Memory.{lent}
 use Rattle.model.proofs.Outcomes.{refused, not_refused}
 use Rattle.model.specs.Records.{open_stack, emptied}
 use Rattle.root_checks.proofs.Passed.{closed_bounds}
-use borrow.Author.Rules.{rules}
 use Rattle.call_stacks.proofs.open_stack.Goals as goal
 
 pub returns-then-n-ne0 : goal.returns-then-n-ne0

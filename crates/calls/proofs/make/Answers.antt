@@ -4,7 +4,6 @@ use Rattle.model.specs.declared.Call.TheVariants.{Setup, Open, Close, Allocate, 
 use Rattle.model.proofs.Checks.{lengths_passed, entry_passed}
 use Rattle.call_setup.proofs.Emptied.{set_up}
 use Rattle.calls.proofs.Entered.{let_in}
-use borrow.Author.Rules.{rules}
 use Rattle.calls.proofs.make.Goals as goal
 
 pub setup-requires : goal.setup-requires

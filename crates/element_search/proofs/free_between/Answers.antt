@@ -1,11 +1,5 @@
-use Prim.Native.Nat.{ℕ, ◌≤◌, ◌<◌, ◌-◌}
-use mathlib.Core.Bool.{false}
-use mathlib.Core.List.{List}
-use mathlib.Core.Path.{◌≡◌, sym, ◌∙◌}
+use mathlib.Core.Path.{sym, ◌∙◌}
 use native.Mathlib.Omega.{arith}
-use borrow.Author.Rules.{rules}
-use Rattle.model.specs.Memory.{lent}
-use Rattle.model.specs.Allocate.{has_room}
 use Rattle.element_search.proofs.Search.{found_at, found_none, none_yet, one_more}
 use Rattle.element_search.proofs.free_between.Goals as goal
 

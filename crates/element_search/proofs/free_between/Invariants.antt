@@ -2,12 +2,9 @@
 use Prim.Native.Nat.{ℕ, ◌≤◌, ◌<◌, ◌-◌}
 use mathlib.Core.Bool.{false}
 use mathlib.Core.List.{List}
-use mathlib.Core.Path.{◌≡◌, sym, ◌∙◌}
-use native.Mathlib.Omega.{arith}
-use borrow.Author.Rules.{rules}
+use mathlib.Core.Path.{◌≡◌}
 use Rattle.model.specs.Memory.{lent}
 use Rattle.model.specs.Allocate.{has_room}
-use Rattle.element_search.proofs.Search.{found_at, found_none, none_yet, one_more}
 use Rattle.element_search.proofs.free_between.Given as goal
 
 abbrev pub invariant-loop-s : goal.invariant-loop-s

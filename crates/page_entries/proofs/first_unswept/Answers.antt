@@ -1,9 +1,6 @@
-use Prim.Native.Nat.{ℕ, ◌≤◌, ◌<◌, ◌-◌}
-use mathlib.Core.Bool.{false, ◌&&◌}
 use mathlib.Core.Path.{◌≡◌, sym, ◌∙◌}
 use native.Mathlib.Omega.{arith}
 use borrow.Author.Count.{below_none, below_more}
-use Rattle.model.specs.Spans.{starts_span, is_unswept}
 use Rattle.page_entries.proofs.Search.{lowest, none}
 use borrow.Author.Rules.{rules}
 use Rattle.page_entries.proofs.first_unswept.Goals as goal

@@ -1,8 +1,6 @@
-use Prim.Native.Nat.{◌≤◌, ◌-◌}
 use mathlib.Core.Path.{◌≡◌, refl}
 use native.Mathlib.Omega.{arith}
-use Rattle.model.specs.Spans.{free_page}
-use Rattle.page_entries.proofs.Entries.{Written, none_written, one_written}
+use Rattle.page_entries.proofs.Entries.{none_written, one_written}
 use borrow.Author.Rules.{rules}
 use Rattle.page_entries.proofs.free_span.Goals as goal
 

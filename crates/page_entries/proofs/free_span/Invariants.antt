@@ -1,10 +1,7 @@
 -- The invariant: the entries of the first `freed` pages are written.
 use Prim.Native.Nat.{◌≤◌, ◌-◌}
-use mathlib.Core.Path.{◌≡◌, refl}
-use native.Mathlib.Omega.{arith}
 use Rattle.model.specs.Spans.{free_page}
-use Rattle.page_entries.proofs.Entries.{Written, none_written, one_written}
-use borrow.Author.Rules.{rules}
+use Rattle.page_entries.proofs.Entries.{Written}
 use Rattle.page_entries.proofs.free_span.Given as goal
 
 abbrev pub invariant-loop-freed : goal.invariant-loop-freed

@@ -1,9 +1,7 @@
-use Prim.Native.Nat.{◌≤◌, ◌-◌}
 use mathlib.Core.Path.{◌≡◌, sym, ◌∙◌}
 use native.Mathlib.Omega.{arith}
 use Rattle.model.specs.Spans.{kind_entry}
-use Rattle.model.specs.Cycle.{unswept_page}
-use Rattle.page_entries.proofs.Entries.{Written, none_written}
+use Rattle.page_entries.proofs.Entries.{none_written}
 use Rattle.page_entries.proofs.Flags.{untouched, flagged, left}
 use borrow.Author.Rules.{rules}
 use borrow.Author.Tests.{eqb-true, eqb-false}

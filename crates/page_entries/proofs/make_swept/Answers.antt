@@ -1,4 +1,3 @@
-use borrow.Author.Rules.{rules}
 use Rattle.page_entries.proofs.make_swept.Goals as goal
 
 pub returns : goal.returns

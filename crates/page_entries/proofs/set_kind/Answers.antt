@@ -1,7 +1,6 @@
 use mathlib.Core.Path.{refl, sym, ◌∙◌}
 use borrow.Author.Tests.{eq-eqb}
 use Rattle.page_entries.proofs.Entries.{put_kind}
-use borrow.Author.Rules.{rules}
 use Rattle.page_entries.proofs.set_kind.Goals as goal
 
 pub returns : goal.returns

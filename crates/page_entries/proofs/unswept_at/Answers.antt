@@ -1,5 +1,3 @@
-use borrow.Author.Rules.{rules}
-use borrow.Author.Tests.{not-true, not-false}
 use Rattle.page_entries.proofs.Search.{absent}
 use Rattle.page_entries.proofs.unswept_at.Goals as goal
 

@@ -1,11 +1,10 @@
-use Prim.Native.Nat.{◌+◌, ◌≤◌, ◌-◌}
-use mathlib.Core.Bool.{false, cond}
+use Prim.Native.Nat.{◌+◌}
+use mathlib.Core.Bool.{false}
 use mathlib.Core.Path.{◌≡◌, refl}
 use native.Mathlib.Omega.{arith}
 use lib.Dec.{eqb}
 use borrow.Author.Tests.{eq-eqb, ne_eqb}
-use Rattle.model.specs.Spans.{span_page}
-use Rattle.page_entries.proofs.Entries.{Written, none_written, one_written}
+use Rattle.page_entries.proofs.Entries.{none_written, one_written}
 use borrow.Author.Rules.{rules}
 use Rattle.page_entries.proofs.write_span.Goals as goal
 

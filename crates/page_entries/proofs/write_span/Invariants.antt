@@ -1,13 +1,10 @@
 -- The invariant: the first k pages' entries are written, and `next_count` and `next_kind` are those of the next page.
 use Prim.Native.Nat.{◌+◌, ◌≤◌, ◌-◌}
-use mathlib.Core.Bool.{false, cond}
-use mathlib.Core.Path.{◌≡◌, refl}
-use native.Mathlib.Omega.{arith}
+use mathlib.Core.Bool.{cond}
+use mathlib.Core.Path.{◌≡◌}
 use lib.Dec.{eqb}
-use borrow.Author.Tests.{eq-eqb, ne_eqb}
 use Rattle.model.specs.Spans.{span_page}
-use Rattle.page_entries.proofs.Entries.{Written, none_written, one_written}
-use borrow.Author.Rules.{rules}
+use Rattle.page_entries.proofs.Entries.{Written}
 use Rattle.page_entries.proofs.write_span.Given as goal
 
 abbrev pub invariant-loop-k : goal.invariant-loop-k

@@ -1,8 +1,7 @@
-use Prim.Native.Nat.{◌-◌}
 use native.Mathlib.Omega.{arith}
 use Rattle.model.proofs.Tests.{clash}
 use Rattle.page_runs.proofs.Allocate.{run_within}
-use Rattle.page_runs.proofs.Runs.{SoFar, none_yet, worse, better, too_short, ended}
+use Rattle.page_runs.proofs.Runs.{none_yet, worse, better, too_short, ended}
 use borrow.Author.Rules.{rules}
 use Rattle.page_runs.proofs.best_run.Goals as goal
 

@@ -1,10 +1,6 @@
 -- `page_runs::best_run` meets its contract. The invariant: the best of the runs that start below page g is known.
 use Prim.Native.Nat.{◌-◌}
-use native.Mathlib.Omega.{arith}
-use Rattle.model.proofs.Tests.{clash}
-use Rattle.page_runs.proofs.Allocate.{run_within}
-use Rattle.page_runs.proofs.Runs.{SoFar, none_yet, worse, better, too_short, ended}
-use borrow.Author.Rules.{rules}
+use Rattle.page_runs.proofs.Runs.{SoFar}
 use Rattle.page_runs.proofs.best_run.Given as goal
 
 abbrev pub invariant-loop-g : goal.invariant-loop-g

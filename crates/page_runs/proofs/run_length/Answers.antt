@@ -1,10 +1,8 @@
-use Prim.Native.Nat.{ℕ, ◌≤◌, ◌<◌, ◌-◌}
-use mathlib.Core.Bool.{true}
 use mathlib.Core.Path.{◌≡◌}
 use native.Mathlib.Omega.{arith}
 use borrow.Author.Count.{below_more}
 use borrow.Author.Tests.{eq-eqb, ne_eqb}
-use Rattle.model.specs.Spans.{owner, is_free}
+use Rattle.model.specs.Spans.{owner}
 use Rattle.page_runs.proofs.Allocate.{run_is}
 use borrow.Author.Rules.{rules}
 use Rattle.page_runs.proofs.run_length.Goals as goal

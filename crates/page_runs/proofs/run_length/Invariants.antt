@@ -2,12 +2,7 @@
 use Prim.Native.Nat.{ℕ, ◌≤◌, ◌<◌, ◌-◌}
 use mathlib.Core.Bool.{true}
 use mathlib.Core.Path.{◌≡◌}
-use native.Mathlib.Omega.{arith}
-use borrow.Author.Count.{below_more}
-use borrow.Author.Tests.{eq-eqb, ne_eqb}
-use Rattle.model.specs.Spans.{owner, is_free}
-use Rattle.page_runs.proofs.Allocate.{run_is}
-use borrow.Author.Rules.{rules}
+use Rattle.model.specs.Spans.{is_free}
 use Rattle.page_runs.proofs.run_length.Given as goal
 
 abbrev pub invariant-loop-k : goal.invariant-loop-k

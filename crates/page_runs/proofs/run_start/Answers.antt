@@ -1,9 +1,7 @@
-use Prim.Native.Nat.{ℕ, ◌≤◌, ◌<◌}
-use mathlib.Core.Bool.{true, or-true}
-use mathlib.Core.Path.{◌≡◌}
+use mathlib.Core.Bool.{or-true}
 use native.Mathlib.Omega.{arith}
 use borrow.Author.Tests.{eq-eqb, ne_eqb}
-use Rattle.model.specs.Spans.{owner, is_free}
+use Rattle.model.specs.Spans.{owner}
 use Rattle.page_runs.proofs.Around.{free_below, start_is}
 use borrow.Author.Rules.{rules}
 use Rattle.page_runs.proofs.run_start.Goals as goal

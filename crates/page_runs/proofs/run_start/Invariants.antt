@@ -1,12 +1,8 @@
 -- `page_runs::run_start` meets its contract. The invariant: the pages from `first` up to page s are free.
 use Prim.Native.Nat.{ℕ, ◌≤◌, ◌<◌}
-use mathlib.Core.Bool.{true, or-true}
+use mathlib.Core.Bool.{true}
 use mathlib.Core.Path.{◌≡◌}
-use native.Mathlib.Omega.{arith}
-use borrow.Author.Tests.{eq-eqb, ne_eqb}
-use Rattle.model.specs.Spans.{owner, is_free}
-use Rattle.page_runs.proofs.Around.{free_below, start_is}
-use borrow.Author.Rules.{rules}
+use Rattle.model.specs.Spans.{is_free}
 use Rattle.page_runs.proofs.run_start.Given as goal
 
 abbrev pub invariant-loop-first : goal.invariant-loop-first

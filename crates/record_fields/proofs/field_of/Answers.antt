@@ -5,7 +5,6 @@ use native.Mathlib.Omega.{arith}
 use Rattle.model.specs.Memory.{page_words}
 use Rattle.model.specs.Spans.{span_of, element_words}
 use Rattle.record_fields.proofs.Fields.{words_read, fits, entries, class_row, no_field, pointer_there, number_there}
-use borrow.Author.Rules.{rules}
 use Rattle.record_fields.proofs.field_of.Goals as goal
 
 pub span_with_word-span-requires : goal.span_with_word-span-requires

@@ -11,7 +11,6 @@ use Rattle.model.proofs.Checks.{passes}
 use Rattle.root_checks.proofs.Passed.{slot_bounds}
 use Rattle.record_fields.proofs.Fields.{slot_record}
 use Rattle.record_fields.proofs.Chains.{by_slot, by_other, no_slot, nil_slot_lem, named_slot}
-use borrow.Author.Rules.{rules}
 use Rattle.record_fields.proofs.find.Goals as goal
 
 pub slot_refusal-place-requires : goal.slot_refusal-place-requires

@@ -1,7 +1,6 @@
 -- Each way out is the one test.
 use mathlib.Core.Path.{sym, ◌∙◌}
 use Rattle.model.specs.Answers.{◌given◌}
-use borrow.Author.Rules.{rules}
 use Rattle.record_fields.proofs.no_record.Goals as goal
 
 pub returns-then-is_nil : goal.returns-then-is_nil

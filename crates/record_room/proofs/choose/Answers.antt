@@ -2,7 +2,6 @@
 use Prim.Native.Nat.{ℕ}
 use mathlib.Core.List.{List}
 use mathlib.Core.Path.{◌≡◌, sym, ◌∙◌}
-use borrow.Author.Rules.{rules}
 use Rattle.model.specs.Memory.{Heap, lent}
 use Rattle.model.specs.Checks.{slot_refusal}
 use Rattle.classes.specs.Shape.{Shaped}

@@ -1,7 +1,6 @@
 -- `record_room::element_for` meets its contract: an element is free, no span is unswept, or spans of the kind are swept.
 use mathlib.Core.Path.{sym, ◌∙◌}
 use native.Mathlib.Omega.{arith}
-use borrow.Author.Rules.{rules}
 use Rattle.element_search.proofs.Search.{of_all}
 use Rattle.model.proofs.Lent.{audited_mapped}
 use Rattle.record_room.proofs.Room.{free_at_once, none_to_sweep}

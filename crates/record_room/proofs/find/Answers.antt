@@ -1,6 +1,5 @@
 -- `record_room::find` meets its contract. Each way out has its law in proofs/Room.antt.
 use mathlib.Core.Path.{refl}
-use borrow.Author.Rules.{rules}
 use Rattle.record_room.proofs.Room.{told, element_kept, found_old, found_new, found_none}
 use Rattle.record_room.proofs.find.Goals as goal
 

@@ -1,6 +1,5 @@
 -- `record_room::pages_for` meets its contract: a run is long enough, no span is unswept, or spans are swept.
 use native.Mathlib.Omega.{arith}
-use borrow.Author.Rules.{rules}
 use Rattle.model.specs.Memory.{lent}
 use Rattle.record_room.proofs.Room.{run_at_once, none_to_return}
 use Rattle.record_room.proofs.pages_for.Goals as goal

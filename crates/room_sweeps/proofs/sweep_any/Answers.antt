@@ -2,8 +2,6 @@
 use Prim.Native.Nat.{ℕ}
 use mathlib.Core.List.{List}
 use native.Mathlib.Omega.{arith}
-use borrow.Author.Tests.{not-true, not-false}
-use borrow.Author.Rules.{rules}
 use Rattle.model.specs.Memory.{Heap, lent}
 use Rattle.model.specs.Allocate.{any_span}
 use Rattle.model.specs.Lent.{PageTable}
@@ -29,7 +27,7 @@ returns-then-swept-eq0 c a o F =
 
 pub run_around-requires : goal.run_around-requires
 run_around-requires c =
-    let left : PageTable c.args.p c.sweep-swept.new.table =     (swept_mapped c.requires.0 c.unswept_at-next.ensures c.if-not-found.false c.sweep-swept.ensures).table in
+    let left : PageTable c.args.p c.sweep-swept.new.table = (swept_mapped c.requires.0 c.unswept_at-next.ensures c.if-not-found.false c.sweep-swept.ensures).table in
     (left, omega (arith, c.requires.1))
 
 pub returns : goal.returns

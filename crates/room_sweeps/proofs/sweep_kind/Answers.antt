@@ -1,8 +1,5 @@
-use Prim.Native.Nat.{◌≤◌, ◌-◌}
 use native.Mathlib.Omega.{arith}
-use borrow.Author.Rules.{rules}
-use Rattle.model.specs.Allocate.{element_free, of_kind}
-use Rattle.room_sweeps.proofs.Loop.{Under, begun, still, same_table, same_bits, goes_on}
+use Rattle.room_sweeps.proofs.Loop.{begun, still, same_table, same_bits, goes_on}
 use Rattle.room_sweeps.proofs.Turns.{kind_steady, not_found, found_one, no_more}
 use Rattle.room_sweeps.proofs.sweep_kind.Goals as goal
 

@@ -1,10 +1,7 @@
 -- The invariant: no unswept span of the kind starts below page s, none of the kind has room, and what is left to do is what was to do at the beginning.
 use Prim.Native.Nat.{◌≤◌, ◌-◌}
-use native.Mathlib.Omega.{arith}
-use borrow.Author.Rules.{rules}
 use Rattle.model.specs.Allocate.{element_free, of_kind}
-use Rattle.room_sweeps.proofs.Loop.{Under, begun, still, same_table, same_bits, goes_on}
-use Rattle.room_sweeps.proofs.Turns.{kind_steady, not_found, found_one, no_more}
+use Rattle.room_sweeps.proofs.Loop.{Under}
 use Rattle.room_sweeps.proofs.sweep_kind.Given as goal
 
 abbrev pub invariant-loop-s : goal.invariant-loop-s

@@ -2,8 +2,6 @@
 use Prim.Native.Nat.{ℕ}
 use mathlib.Core.List.{List}
 use native.Mathlib.Omega.{arith}
-use borrow.Author.Tests.{not-true, not-false}
-use borrow.Author.Rules.{rules}
 use Rattle.model.specs.Memory.{Heap, lent}
 use Rattle.model.specs.Allocate.{of_kind}
 use Rattle.element_search.proofs.Search.{of_one}

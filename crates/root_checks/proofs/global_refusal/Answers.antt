@@ -2,7 +2,6 @@
 use borrow.Author.Tests.{eq-eqb, ne_eqb, le-leb, lt-leb}
 use Rattle.model.specs.Answers.{◌given◌, ◌or_else◌}
 use Rattle.root_checks.proofs.Passed.{global_chain}
-use borrow.Author.Rules.{rules}
 use Rattle.root_checks.proofs.global_refusal.Goals as goal
 
 pub returns-then-slot-ne0 : goal.returns-then-slot-ne0

@@ -1,7 +1,6 @@
 -- Each way out is one of the two tests.
 use borrow.Author.Tests.{eq-eqb, ne_eqb, le-leb, lt-leb}
 use Rattle.model.specs.Answers.{◌given◌}
-use borrow.Author.Rules.{rules}
 use Rattle.root_checks.proofs.not_closed.Goals as goal
 
 pub returns-then-stack-ge-STACKS : goal.returns-then-stack-ge-STACKS

@@ -1,7 +1,6 @@
 -- Each way out is the one test.
 use borrow.Author.Tests.{eq-eqb, ne_eqb}
 use Rattle.model.specs.Answers.{◌given◌}
-use borrow.Author.Rules.{rules}
 use Rattle.root_checks.proofs.not_in.Goals as goal
 
 pub returns-then-roots-phase : goal.returns-then-roots-phase

@@ -2,7 +2,6 @@
 use borrow.Author.Tests.{eq-eqb, ne_eqb}
 use Rattle.model.specs.Answers.{◌or_else◌}
 use Rattle.model.specs.Checks.{slot_refusal}
-use borrow.Author.Rules.{rules}
 use Rattle.root_checks.proofs.slot_refusal.Goals as goal
 
 pub returns-then-stack-ne0 : goal.returns-then-stack-ne0

@@ -2,7 +2,6 @@
 use borrow.Author.Tests.{eq-eqb, ne_eqb}
 use Rattle.model.specs.Answers.{◌or_else◌}
 use Rattle.root_checks.proofs.Passed.{slots_chain}
-use borrow.Author.Rules.{rules}
 use Rattle.root_checks.proofs.slots_refusal.Goals as goal
 
 pub returns-then-first-ne0 : goal.returns-then-first-ne0

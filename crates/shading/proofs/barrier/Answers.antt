@@ -1,6 +1,5 @@
 -- Nothing outside the mark phase; in it, what two shadings leave.
 use Rattle.shading.proofs.Shades.{no_barrier, shaded_both}
-use borrow.Author.Rules.{rules}
 use Rattle.shading.proofs.barrier.Goals as goal
 
 pub returns-then-roots-ne-MARK : goal.returns-then-roots-ne-MARK

@@ -2,11 +2,10 @@
 use mathlib.Core.Logic.{◌≢◌}
 use mathlib.Core.Path.{sym, ◌∙◌}
 use native.Mathlib.Omega.{arith}
-use borrow.Author.Tests.{eqb-true, eqb-false, not-true, not-false}
+use borrow.Author.Tests.{eqb-true, eqb-false}
 use Rattle.model.specs.Memory.{nil}
 use Rattle.shading.specs.Needs.{NamesRecord}
 use Rattle.shading.proofs.Shades.{nil_shades, marked_shades, noscan_shades, scan_shades}
-use borrow.Author.Rules.{rules}
 use Rattle.shading.proofs.shade.Goals as goal
 
 pub returns-then-is_nil : goal.returns-then-is_nil

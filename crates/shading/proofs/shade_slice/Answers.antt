@@ -1,8 +1,5 @@
-use Prim.Native.Nat.{◌+◌, ◌-◌, ◌≤◌}
 use mathlib.Core.Path.{◌≡◌, refl, ◌∙◌}
-use lib.ListN.{length, get_or}
 use native.Mathlib.Omega.{arith}
-use Rattle.shading.specs.Needs.{ShadesAll}
 use Rattle.shading.proofs.Shades.{at_most_one, none_shaded, one_more}
 use borrow.Author.Rules.{rules}
 use Rattle.shading.proofs.shade_slice.Goals as goal

@@ -1,11 +1,8 @@
 -- The invariant: the first k values are shaded, and their marks counted.
 use Prim.Native.Nat.{◌+◌, ◌-◌, ◌≤◌}
-use mathlib.Core.Path.{◌≡◌, refl, ◌∙◌}
+use mathlib.Core.Path.{◌≡◌}
 use lib.ListN.{length, get_or}
-use native.Mathlib.Omega.{arith}
 use Rattle.shading.specs.Needs.{ShadesAll}
-use Rattle.shading.proofs.Shades.{at_most_one, none_shaded, one_more}
-use borrow.Author.Rules.{rules}
 use Rattle.shading.proofs.shade_slice.Given as goal
 
 abbrev pub invariant-loop-k : goal.invariant-loop-k

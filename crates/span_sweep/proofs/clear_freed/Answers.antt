@@ -1,12 +1,11 @@
-use Prim.Native.Nat.{ℕ, ◌-◌}
+use Prim.Native.Nat.{ℕ}
 use mathlib.Core.List.{List}
 use mathlib.Core.Path.{sym, ◌∙◌}
 use native.Mathlib.Omega.{arith}
-use borrow.Author.Tests.{not-true}
 use Rattle.bitmap_range.proofs.Bits.{Fit}
 use Rattle.span_sweep.specs.Needs.{SpanRead}
 use Rattle.span_sweep.proofs.Bounds.{SpanBounds, bounds}
-use Rattle.span_sweep.proofs.Pointers.{Cleared, Measured, Turn, measured, noscan_same, loop_begun, loop_turn, loop_next, loop_end}
+use Rattle.span_sweep.proofs.Pointers.{Measured, Turn, measured, noscan_same, loop_begun, loop_turn, loop_next, loop_end}
 use Rattle.span_sweep.proofs.clear_freed.Goals as goal
 
 pub returns-then-not-scan : goal.returns-then-not-scan

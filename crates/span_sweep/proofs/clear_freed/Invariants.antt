@@ -1,13 +1,7 @@
 -- The invariant: below word `at`, the next freed element, the pointer bits are the definition's, by any table that the span is read from.
 use Prim.Native.Nat.{ℕ, ◌-◌}
 use mathlib.Core.List.{List}
-use mathlib.Core.Path.{sym, ◌∙◌}
-use native.Mathlib.Omega.{arith}
-use borrow.Author.Tests.{not-true}
-use Rattle.bitmap_range.proofs.Bits.{Fit}
-use Rattle.span_sweep.specs.Needs.{SpanRead}
-use Rattle.span_sweep.proofs.Bounds.{SpanBounds, bounds}
-use Rattle.span_sweep.proofs.Pointers.{Cleared, Measured, Turn, measured, noscan_same, loop_begun, loop_turn, loop_next, loop_end}
+use Rattle.span_sweep.proofs.Pointers.{Cleared, Measured}
 use Rattle.span_sweep.proofs.clear_freed.Given as goal
 
 abbrev pub invariant-loop-at : goal.invariant-loop-at

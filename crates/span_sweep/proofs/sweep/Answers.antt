@@ -7,7 +7,6 @@ use Rattle.model.specs.Memory.{lent}
 use Rattle.model.specs.Cycle.{swept_bits}
 use Rattle.span_sweep.proofs.Bounds.{SpanBounds, bounds}
 use Rattle.span_sweep.proofs.Swept.{SpanCounts, counted, swept_words, span_freed, span_kept}
-use borrow.Author.Rules.{rules}
 use Rattle.span_sweep.proofs.sweep.Goals as goal
 
 pub first_block-first-requires : goal.first_block-first-requires
