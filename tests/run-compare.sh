@@ -6,7 +6,7 @@
 # and a longer run.
 set -u
 cd "$(dirname "$0")/.." || exit 1
-program=target/bin/play
+program=crates/play/out/play
 package=(--manifest-path peer/compare/Cargo.toml --target-dir peer/compare/target)
 built=peer/compare/target/release
 work=$(mktemp -d)
@@ -67,7 +67,7 @@ if [ -x "$built/compare" ] && [ -x "$built/traces" ]; then
   if [ -x "$program" ]; then
     part "trace programs equal" "$built/traces" --play "$program"
   else
-    echo "== $program is not built: no trace was compared"
+    echo "== $program is not built (rt run in crates/play, or rt ci): no trace was compared"
   fi
 fi
 finish
