@@ -2,7 +2,6 @@
 use Prim.Native.Nat.{ℕ, ◌<◌, ◌≤◌}
 use mathlib.Core.Bool.{Bool, true, false, cond, ◌&&◌}
 use mathlib.Core.List.{List}
-use mathlib.Core.Logic.{◌⊎◌, ⊎_elim}
 use mathlib.Core.Path.{◌≡◌, refl}
 use native.Mathlib.Omega.{arith}
 use lib.Dec.{leb}
@@ -10,13 +9,12 @@ use borrow.Author.Tests.{le-leb, lt-leb, leb-false}
 use Rattle.model.specs.Memory.{Heap}
 use Rattle.model.specs.Answers.{Outcome, Meets, accepted, bad_buffers}
 use Rattle.model.specs.Calls as model
+use Rattle.model.specs.declared.Call.{Call as AnyCall}
 use Rattle.model.specs.declared.Call.TheVariants as call
 use Rattle.model.specs.declared.Answer.{Answer}
 use Rattle.model.specs.declared.Answer.TheVariants.{Refused}
-use denote.Enum.Declared.{tag_of, declared}
 use Rattle.trace_read.specs.declared.Line.{Line}
 use Rattle.trace_read.specs.declared.Line.TheVariants.{Bad, Setup, Call}
-use Rattle.trace_read.specs.contracts.Line.{enum}
 use Rattle.trace_write.specs.Text.{answer_text, bad_text, Wrote}
 use Rattle.trace_write.proofs.Bytes.{answer_length, bad_length}
 use Rattle.trace_line.specs.Play.{answered, played_bad, most_pages, in_reach, setup_refused, played_setup, with_pages, first, later, pages_of, Plays}
@@ -78,17 +76,17 @@ plays_setup {answer} {a} {t} {b} {s} {x} {y} {at} {e} {more} h p r m k w =
     rw r (record { written = q.written; room = q.room; more = rw (← m.answer) k; arena = q.arena; table = q.table; bits = q.bits; roots = q.roots })
 
 -- a first line that is not H, and a later line that is no call
-pub not_setup : (l : Line) → (tag_of (declared enum) l ≡ 0) ⊎ (tag_of (declared enum) l ≡ 2) → (h : Heap) → first l h ≡ played_bad 1 h
+pub not_setup : (l : Line) → ((p : ℕ) → l ≡ Setup p → ⊥) → (h : Heap) → first l h ≡ played_bad 1 h
 not_setup Bad k h = refl
-not_setup (Setup p) k h = absurd (⊎_elim (λ e. omega arith) (λ e. omega arith) k)
+not_setup (Setup p) k h = absurd (k p refl)
 not_setup (Call c) k h = refl
 
-pub no_pages : (l : Line) → (tag_of (declared enum) l ≡ 0) ⊎ (tag_of (declared enum) l ≡ 2) → pages_of l ≡ 0
+pub no_pages : (l : Line) → ((p : ℕ) → l ≡ Setup p → ⊥) → pages_of l ≡ 0
 no_pages Bad k = refl
-no_pages (Setup p) k = absurd (⊎_elim (λ e. omega arith) (λ e. omega arith) k)
+no_pages (Setup p) k = absurd (k p refl)
 no_pages (Call c) k = refl
 
-pub not_call : (l : Line) → (tag_of (declared enum) l ≡ 0) ⊎ (tag_of (declared enum) l ≡ 1) → (number : ℕ) (h : Heap) → later l number h ≡ played_bad number h
+pub not_call : (l : Line) → ((c : AnyCall) → l ≡ Call c → ⊥) → (number : ℕ) (h : Heap) → later l number h ≡ played_bad number h
 not_call Bad k number h = refl
 not_call (Setup p) k number h = refl
-not_call (Call c) k number h = absurd (⊎_elim (λ e. omega arith) (λ e. omega arith) k)
+not_call (Call c) k number h = absurd (k c refl)
