@@ -4,8 +4,7 @@ use mathlib.Core.Bool.{Bool, true, false, cond, ◌&&◌}
 use mathlib.Core.List.{List}
 use mathlib.Core.Path.{◌≡◌, refl}
 use native.Mathlib.Omega.{arith}
-use lib.Dec.{leb}
-use borrow.Author.Tests.{le-leb, lt-leb, leb-false}
+use borrow.Author.Tests.{le-leb, lt-leb}
 use Rattle.model.specs.Memory.{Heap}
 use Rattle.model.specs.Answers.{Outcome, Meets, accepted, bad_buffers}
 use Rattle.model.specs.Calls as model
@@ -52,13 +51,6 @@ reach_none p h = rw (lt-leb 1 p (omega arith))
 
 pub reach_past : (p : ℕ) → most_pages < p → in_reach p ≡ false
 reach_past p h = rw (le-leb 1 p (omega arith), lt-leb p most_pages h)
-
-pub pages_kept : (p : ℕ) → p ≤ most_pages → p ≡ cond (in_reach p) p 0
-pages_kept p k = go (leb 1 p) refl
-  where
-    go : (q : Bool) → leb 1 p ≡ q → p ≡ cond (q && leb p most_pages) p 0
-    go true e = rw (le-leb p most_pages k)
-    go false e = omega (arith, leb-false 1 p e)
 
 -- `H P` out of reach
 pub plays_refused : {x y : List ℕ} {at e : ℕ} (h : Heap) (p : ℕ) → in_reach p ≡ false → Wrote (answer_text (Refused bad_buffers)) at x y e →

@@ -1,7 +1,7 @@
 use mathlib.Core.Path.{refl, sym, ◌∙◌}
 use native.Mathlib.Omega.{arith}
 use lib.ListN.{get_or}
-use Rattle.trace_read.proofs.Digits.{ends, stops, leads, goes_on, overflows, digit_small}
+use Rattle.trace_read.proofs.Digits.{ends, stops, goes_on, overflows, digit_small}
 use Rattle.trace_read.proofs.digits_from.Goals as goal
 
 pub loop-i-init : goal.loop-i-init
@@ -13,14 +13,11 @@ returns-then-d-eq-NO_DIGIT c = (omega arith, c.loop-i.invariant.2 ∙ stops _ c.
 pub overflow_add-i : goal.overflow_add-i
 overflow_add-i c = omega arith
 
-pub returns-then-v-eq0 : goal.returns-then-v-eq0
-returns-then-v-eq0 c = c.loop-i.invariant.2 ∙ leads _ c.loop-i.i c.loop-i.v (omega arith) c.if-v-eq0.true (λ e. c.if-d-eq-NO_DIGIT.false (c.digit-d.ensures ∙ e))
-
 pub overflow_sub-d : goal.overflow_sub-d
 overflow_sub-d c = omega (arith, c.digit-d.ensures, digit_small (get_or c.args.line.now c.loop-i.i 0))
 
 pub returns-then-d-v : goal.returns-then-d-v
-returns-then-d-v c = c.loop-i.invariant.2 ∙ overflows _ c.loop-i.i c.loop-i.v (omega arith) c.if-v-eq0.false c.digit-d.ensures c.if-d-eq-NO_DIGIT.false (omega arith)
+returns-then-d-v c = c.loop-i.invariant.2 ∙ overflows _ c.loop-i.i c.loop-i.v (omega arith) (λ e. omega arith) c.digit-d.ensures c.if-d-eq-NO_DIGIT.false (omega arith)
 
 pub overflow_mul-v : goal.overflow_mul-v
 overflow_mul-v c = omega arith
@@ -32,7 +29,7 @@ pub loop-i-smaller : goal.loop-i-smaller
 loop-i-smaller c = omega arith
 
 pub loop-i-preserved : goal.loop-i-preserved
-loop-i-preserved c = (omega arith, omega arith, c.loop-i.invariant.2 ∙ goes_on _ c.loop-i.i c.loop-i.v (omega arith) c.if-v-eq0.false c.digit-d.ensures c.if-d-eq-NO_DIGIT.false)
+loop-i-preserved c = (omega arith, omega arith, c.loop-i.invariant.2 ∙ goes_on _ c.loop-i.i c.loop-i.v (omega arith) (λ e. omega arith) c.digit-d.ensures c.if-d-eq-NO_DIGIT.false)
 
 pub returns : goal.returns
 returns c = (c.loop-i.invariant.0, c.loop-i.invariant.2 ∙ ends _ c.loop-i.i c.loop-i.v (omega arith) c.loop-i.invariant.1)

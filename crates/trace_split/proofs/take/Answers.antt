@@ -19,7 +19,7 @@ returns-then-at-eq-LONGEST c =
 pub loop-i-preserved : goal.loop-i-preserved
 loop-i-preserved c =
     let a = c.args in
-    one_more a.line.now a.used a.block.now a.from c.loop-i.invariant (omega arith) c.if-b-eq-LINE_FEED.false c.if-at-eq-LONGEST.false
+    one_more a.line.now a.used a.block.now a.from c.loop-i.invariant (omega arith) c.if-b-eq-LINE_FEED.false (λ e. omega arith)
 
 pub returns : goal.returns
 returns c =
