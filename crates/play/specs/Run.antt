@@ -7,7 +7,7 @@ use Rattle.trace_read.specs.Lines.{longest_line}
 use Rattle.trace_line.specs.Play.{most_pages}
 use Rattle.play.specs.declared.Progress.{Progress}
 
--- a large buffer of library io, as a block of input and what waits to be written have
+-- the bytes of a buffer that a block of input is read into, and of the one for what waits to be written
 abbrev pub block_bytes : ℕ
 block_bytes = 65536
 

@@ -9,11 +9,11 @@ ghost use Rattle.trace_write.specs.Text.{longest_answer};
 ghost use Rattle.trace_line.specs.Play.{most_pages};
 ghost use Rattle.play.specs.Run.{block_bytes, LentMemory, InRange};
 
+use std::io::{Read, Stdin, Stdout, Write};
 use trace_split::Taken;
 
-const STDIN: i32 = 0;
-
-const STDOUT: i32 = 1;
+// So many bytes are read at once, and so many wait at most before they are written.
+const BLOCK_BYTES: usize = 65536;
 
 // The memory of the most pages that a trace may ask for.
 const PAGES: usize = trace_line::MOST_PAGES as usize;
@@ -112,20 +112,43 @@ fn play_later(
     }
 }
 
+// The bytes go to standard output. What a write that fails leaves unwritten is lost, and the run goes
+// on.
+fn write_out(stdout: Stdout, bytes: &[u8]) {
+    let mut to = stdout;
+    match to.write_all(bytes) {
+        Ok(()) => {}
+        Err(_) => {}
+    }
+}
+
+// The next bytes of standard input, at the start of the block. There are none at its end, nor where
+// a read fails.
+fn read_block(stdin: Stdin, block: &mut [u8]) -> usize
+    ensures { result ≤ length block.new }
+{
+    let mut from = stdin;
+    match from.read(block) {
+        Ok(n) => n,
+        Err(_) => 0,
+    }
+}
+
 // Room for one more line of output: what waits is written where it has to be.
-fn room(out: &[u8], at: usize) -> usize
+fn room(stdout: Stdout, out: &[u8], at: usize) -> usize
     requires { (at ≤ block_bytes) × (length out.now ≡ block_bytes) }
     ensures { result + longest_answer ≤ block_bytes }
 {
     if at + trace_write::LONGEST <= out.len() {
         return at;
     }
-    io::write_all(STDOUT, &out[..at]);
+    write_out(stdout, &out[..at]);
     0
 }
 
 // A line that was read to its end.
 fn play_line(
+    stdout: Stdout,
     arena: &mut [u64],
     table: &mut [u32],
     bits: &mut [u64],
@@ -138,7 +161,7 @@ fn play_line(
     requires in_range { InRange run }
     ensures { InRange result }
 {
-    let at = room(out, run.at);
+    let at = room(stdout, out, run.at);
     if run.lines == 0 {
         return play_first(arena, table, bits, roots, out, line, at);
     }
@@ -188,6 +211,7 @@ fn left_over(run: Progress, taken: Taken) -> Progress
 
 // The lines of a block, one after the other.
 fn feed(
+    stdout: Stdout,
     arena: &mut [u64],
     table: &mut [u32],
     bits: &mut [u64],
@@ -209,7 +233,7 @@ fn feed(
         let Taken::Line(n, next) = taken else {
             return left_over(run, taken);
         };
-        run = play_line(arena, table, bits, roots, out, &line[..n], run);
+        run = play_line(stdout, arena, table, bits, roots, out, &line[..n], run);
         used = 0;
         i = next;
     }
@@ -217,12 +241,12 @@ fn feed(
 }
 
 // What waits is written.
-fn flushed(out: &[u8], run: Progress) -> Progress
+fn flushed(stdout: Stdout, out: &[u8], run: Progress) -> Progress
     requires { InRange run × (length out.now ≡ block_bytes) }
     ensures { InRange result }
 {
     let at = run.at;
-    io::write_all(STDOUT, &out[..at]);
+    write_out(stdout, &out[..at]);
     Progress {
         pages: run.pages,
         lines: run.lines,
@@ -234,37 +258,38 @@ fn flushed(out: &[u8], run: Progress) -> Progress
 
 // The end of the run: what waits is written. A line under way does not read, nor does an input with
 // no line at all.
-fn end(out: &mut [u8], run: Progress)
+fn end(stdout: Stdout, out: &mut [u8], run: Progress)
     requires { InRange run × (length out.old ≡ block_bytes) }
 {
     let at = run.at;
-    io::write_all(STDOUT, &out[..at]);
+    write_out(stdout, &out[..at]);
     if run.used == 0 && run.lines != 0 {
         return;
     }
     let number = std::num::wrapping_add_u64(run.lines, 1);
     let n = trace_write::write_bad(out, 0, number);
-    io::write_all(STDOUT, &out[..n]);
+    write_out(stdout, &out[..n]);
 }
 
-fn main() {
+fn main(rt: HostRuntime) {
+    let stdin = rt.stdin();
+    let stdout = rt.stdout();
     let mut arena = [0u64; ARENA_WORDS];
     let mut table = [0u32; TABLE_NUMBERS];
     let mut bits = [0u64; BITMAP_WORDS];
     let mut roots = [0u64; units::ROOT_WORDS];
     let mut line = [0u8; trace_read::LONGEST];
-    let mut block = io::large_buffer();
-    let mut out = io::large_buffer();
+    let mut block = [0u8; BLOCK_BYTES];
+    let mut out = [0u8; BLOCK_BYTES];
     let mut run = begun();
-    let mut turns = u64::MAX;
-    while 0 < turns {
-        let got = libc::read(STDIN, &mut block);
-        let n = io::count(got, &block);
+    for _ in 0..u64::MAX {
+        let n = read_block(stdin, &mut block);
         if n == 0 {
-            end(&mut out, run);
+            end(stdout, &mut out, run);
             return;
         }
         run = feed(
+            stdout,
             &mut arena,
             &mut table,
             &mut bits,
@@ -275,10 +300,9 @@ fn main() {
             run,
         );
         if !run.more {
-            end(&mut out, run);
+            end(stdout, &mut out, run);
             return;
         }
-        run = flushed(&out, run);
-        turns -= 1;
+        run = flushed(stdout, &out, run);
     }
 }

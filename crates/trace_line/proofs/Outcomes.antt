@@ -1,22 +1,19 @@
 -- Laws of a line's work: from what a call and a writer promise to what the line's work does.
 use Prim.Native.Nat.{ℕ, ◌<◌, ◌≤◌}
-use mathlib.Core.Bool.{Bool, true, false, cond, ◌&&◌}
+use mathlib.Core.Bool.{Bool, true, false}
 use mathlib.Core.List.{List}
-use mathlib.Core.Logic.{◌⊎◌, ⊎_elim}
 use mathlib.Core.Path.{◌≡◌, refl}
 use native.Mathlib.Omega.{arith}
-use lib.Dec.{leb}
-use borrow.Author.Tests.{le-leb, lt-leb, leb-false}
+use borrow.Author.Tests.{le-leb, lt-leb}
 use Rattle.model.specs.Memory.{Heap}
 use Rattle.model.specs.Answers.{Outcome, Meets, accepted, bad_buffers}
 use Rattle.model.specs.Calls as model
+use Rattle.model.specs.declared.Call.{Call as AnyCall}
 use Rattle.model.specs.declared.Call.TheVariants as call
 use Rattle.model.specs.declared.Answer.{Answer}
 use Rattle.model.specs.declared.Answer.TheVariants.{Refused}
-use denote.Enum.Declared.{tag_of, declared}
 use Rattle.trace_read.specs.declared.Line.{Line}
 use Rattle.trace_read.specs.declared.Line.TheVariants.{Bad, Setup, Call}
-use Rattle.trace_read.specs.contracts.Line.{enum}
 use Rattle.trace_write.specs.Text.{answer_text, bad_text, Wrote}
 use Rattle.trace_write.proofs.Bytes.{answer_length, bad_length}
 use Rattle.trace_line.specs.Play.{answered, played_bad, most_pages, in_reach, setup_refused, played_setup, with_pages, first, later, pages_of, Plays}
@@ -55,13 +52,6 @@ reach_none p h = rw (lt-leb 1 p (omega arith))
 pub reach_past : (p : ℕ) → most_pages < p → in_reach p ≡ false
 reach_past p h = rw (le-leb 1 p (omega arith), lt-leb p most_pages h)
 
-pub pages_kept : (p : ℕ) → p ≤ most_pages → p ≡ cond (in_reach p) p 0
-pages_kept p k = go (leb 1 p) refl
-  where
-    go : (q : Bool) → leb 1 p ≡ q → p ≡ cond (q && leb p most_pages) p 0
-    go true e = rw (le-leb p most_pages k)
-    go false e = omega (arith, leb-false 1 p e)
-
 -- `H P` out of reach
 pub plays_refused : {x y : List ℕ} {at e : ℕ} (h : Heap) (p : ℕ) → in_reach p ≡ false → Wrote (answer_text (Refused bad_buffers)) at x y e →
     Plays (played_setup p h) at x y (record { at = e; more = false }) h.arena h.table h.bits h.roots
@@ -78,17 +68,17 @@ plays_setup {answer} {a} {t} {b} {s} {x} {y} {at} {e} {more} h p r m k w =
     rw r (record { written = q.written; room = q.room; more = rw (← m.answer) k; arena = q.arena; table = q.table; bits = q.bits; roots = q.roots })
 
 -- a first line that is not H, and a later line that is no call
-pub not_setup : (l : Line) → (tag_of (declared enum) l ≡ 0) ⊎ (tag_of (declared enum) l ≡ 2) → (h : Heap) → first l h ≡ played_bad 1 h
+pub not_setup : (l : Line) → ((p : ℕ) → l ≡ Setup p → ⊥) → (h : Heap) → first l h ≡ played_bad 1 h
 not_setup Bad k h = refl
-not_setup (Setup p) k h = absurd (⊎_elim (λ e. omega arith) (λ e. omega arith) k)
+not_setup (Setup p) k h = absurd (k p refl)
 not_setup (Call c) k h = refl
 
-pub no_pages : (l : Line) → (tag_of (declared enum) l ≡ 0) ⊎ (tag_of (declared enum) l ≡ 2) → pages_of l ≡ 0
+pub no_pages : (l : Line) → ((p : ℕ) → l ≡ Setup p → ⊥) → pages_of l ≡ 0
 no_pages Bad k = refl
-no_pages (Setup p) k = absurd (⊎_elim (λ e. omega arith) (λ e. omega arith) k)
+no_pages (Setup p) k = absurd (k p refl)
 no_pages (Call c) k = refl
 
-pub not_call : (l : Line) → (tag_of (declared enum) l ≡ 0) ⊎ (tag_of (declared enum) l ≡ 1) → (number : ℕ) (h : Heap) → later l number h ≡ played_bad number h
+pub not_call : (l : Line) → ((c : AnyCall) → l ≡ Call c → ⊥) → (number : ℕ) (h : Heap) → later l number h ≡ played_bad number h
 not_call Bad k number h = refl
 not_call (Setup p) k number h = refl
-not_call (Call c) k number h = absurd (⊎_elim (λ e. omega arith) (λ e. omega arith) k)
+not_call (Call c) k number h = absurd (k c refl)

@@ -52,6 +52,7 @@ fn wide(b: u8) -> u64
 }
 
 // The digits from place `at` on, after the ones that come to `first`.
+#[tactic(auto, using(crate::proofs::Digits::leads))]
 fn digits_from(line: &[u8], at: usize, first: u64) -> Number
     requires { at ≤ length line.now }
     ensures { Reads (digits first (drop at line.now)) line.now result }

@@ -1,0 +1,13 @@
+-- `play::play_later` is safe: the pages are at most those of its memory, so their parts lie within the buffers.
+use Rattle.std.proofs.Common.{◌*◌, sym, arith, length-take-le}
+use Rattle.model.specs.Memory.{page_words, entry_numbers, bitmap_words}
+use Rattle.play.proofs.play_later.Goals as goal
+
+pub slice_bounds-later_line-end-2 : goal.slice_bounds-later_line-end-2
+slice_bounds-later_line-end-2 c = sym (length-take-le (page_words * c.args.p) c.args.arena.now (omega (arith, c.requires.lent_memory, c.requires.p_le_most_pages.0)))
+
+pub slice_bounds-later_line-end-4 : goal.slice_bounds-later_line-end-4
+slice_bounds-later_line-end-4 c = sym (length-take-le (entry_numbers * c.args.p) c.args.table.now (omega (arith, c.requires.lent_memory, c.requires.p_le_most_pages.0)))
+
+pub slice_bounds-later_line-end-6 : goal.slice_bounds-later_line-end-6
+slice_bounds-later_line-end-6 c = sym (length-take-le (bitmap_words * c.args.p) c.args.bits.now (omega (arith, c.requires.lent_memory, c.requires.p_le_most_pages.0)))
