@@ -1,7 +1,7 @@
 -- The audit's rules about the bits of one arena word: `keeps`, from its bits and from what is known of its place. `block_rule` knows the place
 -- from the masks of its block, `word_rule` from the span.
-use Rattle.std.specs.Prelude.{ℕ, ◌+◌, ◌-◌, ◌*◌, ◌%◌, Bool, ◌&&◌, ◌||◌, not, cond, List, T}
-use Rattle.model.specs.Bounded.{◌==◌, ◌<?◌, ◌≤?◌, ◌implies◌, all_below}
+use Rattle.std.specs.Prelude.{ℕ, ◌+◌, ◌-◌, ◌*◌, ◌%◌, Bool, ◌&&◌, ◌||◌, not, cond, List, T, ◌==◌}
+use Rattle.model.specs.Bounded.{◌<?◌, ◌≤?◌, ◌implies◌, all_below}
 use Rattle.model.specs.Memory.{first_word, word_bits, page_blocks, mark, sweep}
 use Rattle.model.specs.Bitmaps.{allocated, marked, gray, pointer}
 use Rattle.model.specs.Classes.{element_words_of, elements_of}

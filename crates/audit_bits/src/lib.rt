@@ -4,8 +4,8 @@
 // page table has passed the audit; it is passed once more here, from span to span.
 #![tactic(auto)]
 
-ghost use Rattle.std.specs.Prelude.{◌≡◌, ◌&&◌, cond, ◌↔◌, ℕ, ◌+◌, ◌-◌, ◌*◌, ◌^◌, ◌<◌, T};
-ghost use Rattle.model.specs.Bounded.{◌==◌, ◌<?◌, ◌≤?◌, all_below};
+ghost use Rattle.std.specs.Prelude.{◌≡◌, ◌&&◌, cond, ◌↔◌, ℕ, ◌+◌, ◌-◌, ◌*◌, ◌^◌, ◌<◌, T, ◌==◌};
+ghost use Rattle.model.specs.Bounded.{◌<?◌, ◌≤?◌, all_below};
 ghost use Rattle.model.specs.Memory.{mark, page_words, page_blocks, word_bits, first_word};
 ghost use Rattle.model.specs.Lent.{Bitmaps, Mapped};
 ghost use Rattle.audit_blocks.specs.Block.{on};

@@ -1,7 +1,7 @@
 -- The audit's rules for the bits of one arena word of a block, from what is known of the span that it lies in. A block has 64 words; each of its
 -- masks and bitmap words has one bit for each of them.
-use Rattle.std.specs.Prelude.{ℕ, ◌-◌, Bool, ◌&&◌, not, cond}
-use Rattle.model.specs.Bounded.{◌==◌, ◌implies◌}
+use Rattle.std.specs.Prelude.{ℕ, ◌-◌, Bool, ◌&&◌, not, cond, ◌==◌}
+use Rattle.model.specs.Bounded.{◌implies◌}
 use Rattle.model.specs.Bitmaps.{bit_of}
 
 -- bit j of a word is on

@@ -1,6 +1,5 @@
 -- What the audit of the arena's words assumes of the page table and the bitmaps, and what it says of the words.
-use Rattle.std.specs.Prelude.{ℕ, ◌+◌, ◌*◌, ◌<◌, ◌≤◌, List, ◌≡◌, T, length, get_or}
-use Rattle.model.specs.Bounded.{◌==◌}
+use Rattle.std.specs.Prelude.{ℕ, ◌+◌, ◌*◌, ◌<◌, ◌≤◌, List, ◌≡◌, T, length, get_or, ◌==◌}
 use Rattle.model.specs.Memory.{page_words, word_bits, first_word}
 use Rattle.model.specs.Bitmaps.{pointer, bit_of}
 use Rattle.model.specs.Spans.{page_count, is_unswept, element_of, element_words, span_of}

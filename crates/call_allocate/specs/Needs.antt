@@ -1,6 +1,5 @@
 -- What the parts of an allocation ask and give.
-use Rattle.std.specs.Prelude.{ℕ, ◌+◌, ◌*◌, ◌<◌, ◌≤◌, Bool, List, ◌≡◌, length, set}
-use Rattle.model.specs.Bounded.{if◌then◌else◌}
+use Rattle.std.specs.Prelude.{ℕ, ◌+◌, ◌*◌, ◌<◌, ◌≤◌, Bool, List, ◌≡◌, length, set, if◌then◌else◌}
 use Rattle.model.specs.Memory.{Heap, lent, page_words, root_words, put_words, address_of, page_of}
 use Rattle.model.specs.Spans.{put_pages, span_page}
 use Rattle.model.specs.Allocate.{new_bits}

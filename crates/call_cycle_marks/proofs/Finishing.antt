@@ -8,7 +8,8 @@ use native.Mathlib.Omega.{arith}
 use lib.Dec.{eqb, ltb}
 use lib.ListN.{get_or, set}
 use borrow.Author.Tests.{eq-eqb, ne_eqb}
-use Rattle.model.specs.Bounded.{some_below, ◌==◌, ◌<?◌}
+use Rattle.std.specs.Prelude.{◌==◌}
+use Rattle.model.specs.Bounded.{some_below, ◌<?◌}
 use Rattle.model.specs.Memory.{Heap, lent, words, state, globals_state, stack_count, first_state, globals_state_at, phase_at, mark, sweep, gray_state, page_words}
 use Rattle.model.specs.Answers.{Meets, unfinished, ◌given◌, ◌or_else◌}
 use Rattle.model.specs.Checks.{phase_refusal}

@@ -1,6 +1,6 @@
 -- What the scan of a gray record requires, and what it leaves; and a part of the refusal of a finish.
-use Rattle.std.specs.Prelude.{ℕ, true, ◌||◌, List, ◌≡◌}
-use Rattle.model.specs.Bounded.{◌==◌, some_below}
+use Rattle.std.specs.Prelude.{ℕ, true, ◌||◌, List, ◌≡◌, ◌==◌}
+use Rattle.model.specs.Bounded.{some_below}
 use Rattle.model.specs.Memory.{Heap, lent, phase, mark, state, globals_state, stack_count, gray_state}
 use Rattle.model.specs.Answers.{◌given◌, unfinished}
 use Rattle.model.specs.Bitmaps.{is, gray}

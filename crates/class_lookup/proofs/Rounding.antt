@@ -6,7 +6,8 @@ use native.Mathlib.Nat.{div-add-mod, mul-le-mul_left, mul-suc, le_trans}
 use native.Mathlib.Omega.{arith}
 use lib.Dec.{ltb}
 use borrow.Author.Tests.{le-ltb, ltb-true, ltb-false}
-use Rattle.model.specs.Bounded.{◌==◌, ◌<?◌, ◌≤?◌, ◌implies◌, all_below}
+use Rattle.std.specs.Prelude.{◌==◌}
+use Rattle.model.specs.Bounded.{◌<?◌, ◌≤?◌, ◌implies◌, all_below}
 use Rattle.model.specs.Classes.{rows, class_rows, element_bytes, max_small, class_of}
 use Rattle.model.proofs.Tests.{is_true, same_test, and_iff, implies_iff, eqb_iff, ltb_iff, leb_iff}
 use Rattle.model.proofs.Bounded.{all_at, first_cong}

@@ -6,7 +6,8 @@ use native.Mathlib.Nat.{mul-div-mul_left}
 use native.Mathlib.Omega.{arith}
 use lib.Dec.{T}
 use borrow.Author.Tests.{ne_eqb}
-use Rattle.model.specs.Bounded.{◌==◌, ◌<?◌, all_below}
+use Rattle.std.specs.Prelude.{◌==◌}
+use Rattle.model.specs.Bounded.{◌<?◌, all_below}
 use Rattle.model.specs.Memory.{page_bytes, page_words, word_bytes}
 use Rattle.model.specs.Classes.{rows, class_rows, element_bytes, span_bytes, element_words_of, elements_of, class_pages}
 use Rattle.model.proofs.Tests.{is_true, and_iff, eqb_iff, ltb_iff}

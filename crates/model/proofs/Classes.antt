@@ -7,7 +7,8 @@ use native.Mathlib.Omega.{arith}
 use lib.Dec.{eqb, ltb}
 use borrow.Author.Tests.{ltb-true, ltb-false, eqb-true, eqb-false, ne_eqb, lt-ltb, le-ltb, leb-true, leb-false}
 use Rattle.model.specs.Memory.{page_words, word_bytes, page_bytes}
-use Rattle.model.specs.Bounded.{◌==◌, ◌<?◌, ◌≤?◌, all_below, first_below}
+use Rattle.std.specs.Prelude.{◌==◌}
+use Rattle.model.specs.Bounded.{◌<?◌, ◌≤?◌, all_below, first_below}
 use Rattle.model.specs.Classes.{class_rows, element_bytes, span_bytes, class_of, elements_of, element_words_of, class_pages, pages_for, kind_of, rows, kinds, max_small, max_size, fewest_large, most_large}
 use Rattle.model.proofs.Tests.{is_true}
 use Rattle.model.proofs.Bounded.{all_at, first_props, First}

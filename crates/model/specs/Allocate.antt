@@ -1,7 +1,7 @@
 -- Allocating: the span, the element or the pages that a record takes, the sweeps that make room for it, "no room", and what the call leaves.
 -- Sentences marked [2] are those of that change request. Read the sweep of one span (`swept_span` of Cycle) before them.
-use Rattle.std.specs.Prelude.{ℕ, zero, suc, ◌+◌, ◌-◌, Bool, true, ◌&&◌, ◌||◌, not, List, [], ◌∷◌, ◌++◌, set}
-use Rattle.model.specs.Bounded.{◌==◌, ◌<?◌, ◌≤?◌, ◌implies◌, if◌then◌else◌, all_below, first_below}
+use Rattle.std.specs.Prelude.{ℕ, zero, suc, ◌+◌, ◌-◌, Bool, true, ◌&&◌, ◌||◌, not, List, [], ◌∷◌, ◌++◌, set, ◌==◌, if◌then◌else◌}
+use Rattle.model.specs.Bounded.{◌<?◌, ◌≤?◌, ◌implies◌, all_below, first_below}
 use Rattle.model.specs.Memory.{Heap, lent, words, put_words, slot_at, phase, mark, address_of, first_word}
 use Rattle.model.specs.Answers.{Outcome, outcome, ◌given◌, ◌or_else◌, no_room}
 use Rattle.model.specs.Classes.{class_of, kind_of, pages_for, element_words_of}

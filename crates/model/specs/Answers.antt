@@ -1,6 +1,5 @@
 -- Refusals, answers and outcomes.
-use Rattle.std.specs.Prelude.{ℕ, Bool, cond, List, [], ◌∷◌, ◌≡◌, get_or}
-use Rattle.model.specs.Bounded.{◌==◌, if◌then◌else◌}
+use Rattle.std.specs.Prelude.{ℕ, Bool, cond, List, [], ◌∷◌, ◌≡◌, get_or, ◌==◌, if◌then◌else◌}
 use Rattle.model.specs.Memory.{Heap, choose}
 use Rattle.model.specs.declared.Answer.{Answer}
 use Rattle.model.specs.declared.Answer.TheVariants.{Refused, Done, Value, Swept}

@@ -1,6 +1,6 @@
 -- The audit: "Yes exactly if". Clause by clause, page by page, word by word, stack by stack, root by root.
-use Rattle.std.specs.Prelude.{ℕ, ◌+◌, ◌-◌, Bool, ◌&&◌, ◌||◌, not, List}
-use Rattle.model.specs.Bounded.{◌==◌, ◌<?◌, ◌≤?◌, if◌then◌else◌, ◌implies◌, all_below, some_below}
+use Rattle.std.specs.Prelude.{ℕ, ◌+◌, ◌-◌, Bool, ◌&&◌, ◌||◌, not, List, ◌==◌, if◌then◌else◌}
+use Rattle.model.specs.Bounded.{◌<?◌, ◌≤?◌, ◌implies◌, all_below, some_below}
 use Rattle.model.specs.Memory.{Heap, words, stack_count, slot_count, slot, state, globals_state, phase, root, closed, open_state, gray_state, off, mark, sweep, nil, address_of, word_of, word, first_state, unswept_flag}
 use Rattle.model.specs.Classes.{class_pages, fewest_large, most_large, kinds}
 use Rattle.model.specs.Bitmaps.{is, allocated, marked, gray}

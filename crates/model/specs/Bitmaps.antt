@@ -1,7 +1,7 @@
 -- The bitmaps: one bit per arena word in each of four parts.
-use Rattle.std.specs.Prelude.{ℕ, ◌+◌, ◌-◌, ◌*◌, ◌/◌, ◌%◌, ◌^◌, Bool, ◌&&◌, cond, List, get_or, set}
+use Rattle.std.specs.Prelude.{ℕ, ◌+◌, ◌-◌, ◌*◌, ◌/◌, ◌%◌, ◌^◌, Bool, ◌&&◌, cond, List, get_or, set, ◌==◌}
 use Rattle.std.specs.Int.Bits.{bit_or, bit_and}
-use Rattle.model.specs.Bounded.{◌==◌, ◌<?◌, write_run}
+use Rattle.model.specs.Bounded.{◌<?◌, write_run}
 use Rattle.model.specs.Memory.{Heap, words, word_bits, marked_part, gray_part, pointer_part}
 
 -- bit k of a word: 1 or 0

@@ -1,22 +1,15 @@
 -- The combinators that carry all definitions: tests, searches, counts and folds over the numbers below a bound, and runs of writes.
 -- Their laws are in proofs/Bounded.antt.
-use Rattle.std.specs.Prelude.{ℕ, zero, suc, ◌+◌, Bool, true, false, cond, ◌&&◌, not, eqb, leb, ltb}
+use Rattle.std.specs.Prelude.{ℕ, zero, suc, ◌+◌, Bool, true, false, cond, ◌&&◌, not, leb, ltb, if◌then◌else◌}
 
-infix 50 ◌==◌ ◌<?◌ ◌≤?◌
+infix 40 ◌<?◌ ◌≤?◌
 infixr 25 ◌implies◌
-infix 10 if◌then◌else◌
 -- the library's tests, as they are read
-abbrev pub ◌==◌ : ℕ → ℕ → Bool
-a == b = eqb a b
-
 abbrev pub ◌<?◌ : ℕ → ℕ → Bool
 a <? b = ltb a b
 
 abbrev pub ◌≤?◌ : ℕ → ℕ → Bool
 a ≤? b = leb a b
-
-abbrev pub if◌then◌else◌ : {A : Type 0} → Bool → A → A → A
-if b then x else y = cond b x y
 
 -- where the first test holds, so does the second
 unfoldable pub ◌implies◌ : Bool → Bool → Bool

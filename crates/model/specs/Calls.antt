@@ -1,6 +1,5 @@
 -- The calls with their numbers, what each does with the memory that it is lent, and lists of calls.
-use Rattle.std.specs.Prelude.{ℕ, Bool, true, false, not, List, [], ◌∷◌}
-use Rattle.model.specs.Bounded.{◌==◌, if◌then◌else◌}
+use Rattle.std.specs.Prelude.{ℕ, Bool, true, false, not, List, [], ◌∷◌, ◌==◌, if◌then◌else◌}
 use Rattle.model.specs.Memory.{Heap, lent}
 use Rattle.model.specs.Answers.{Outcome, outcome, damaged, ◌given◌, ◌or_else◌}
 use Rattle.model.specs.Checks.{buffers_refusal}

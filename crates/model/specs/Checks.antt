@@ -1,6 +1,6 @@
 -- The refusals that the calls share, each a row of the table of refusals.
-use Rattle.std.specs.Prelude.{ℕ, ◌/◌, ◌||◌, not}
-use Rattle.model.specs.Bounded.{◌==◌, ◌<?◌, ◌≤?◌}
+use Rattle.std.specs.Prelude.{ℕ, ◌/◌, ◌||◌, not, ◌==◌}
+use Rattle.model.specs.Bounded.{◌<?◌, ◌≤?◌}
 use Rattle.model.specs.Memory.{Heap, good_buffers, stack_count, slot_count, global_count, state, phase, slot, closed, nil, word_bytes}
 use Rattle.model.specs.Answers.{◌given◌, ◌or_else◌, bad_buffers, wrong_phase, bad_stack, bad_slot, bad_size, nil_slot, bad_field}
 use Rattle.model.specs.Classes.{max_size}

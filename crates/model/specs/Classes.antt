@@ -1,6 +1,6 @@
 -- Size classes.
-use Rattle.std.specs.Prelude.{ℕ, ◌+◌, ◌-◌, ◌*◌, ◌/◌, List, [], ◌∷◌, get_or}
-use Rattle.model.specs.Bounded.{◌==◌, ◌<?◌, ◌≤?◌, if◌then◌else◌, first_below}
+use Rattle.std.specs.Prelude.{ℕ, ◌+◌, ◌-◌, ◌*◌, ◌/◌, List, [], ◌∷◌, get_or, ◌==◌, if◌then◌else◌}
+use Rattle.model.specs.Bounded.{◌<?◌, ◌≤?◌, first_below}
 use Rattle.model.specs.Memory.{page_bytes, page_words, word_bytes}
 use Rattle.model.specs.declared.ClassRow.{ClassRow}
 

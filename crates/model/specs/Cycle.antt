@@ -1,6 +1,6 @@
 -- One cycle: start, scans, mark steps, finish, sweep steps.
-use Rattle.std.specs.Prelude.{ℕ, ◌+◌, ◌*◌, Bool, false, ◌&&◌, ◌||◌, not, cond, List}
-use Rattle.model.specs.Bounded.{◌==◌, ◌<?◌, if◌then◌else◌, all_below, first_below, some_below, count_below}
+use Rattle.std.specs.Prelude.{ℕ, ◌+◌, ◌*◌, Bool, false, ◌&&◌, ◌||◌, not, cond, List, ◌==◌, if◌then◌else◌}
+use Rattle.model.specs.Bounded.{◌<?◌, all_below, first_below, some_below, count_below}
 use Rattle.model.specs.Memory.{Heap, lent, choose, with_table, with_bits, words, page_words, stack_count, slot_count, global_count, slot, global, state, root, globals_state, first_state, state_at, globals_state_at, phase_at, closed, open_state, gray_state, off, mark, sweep, set_root, put_words, with_roots, word, address_of, first_word, unswept_flag}
 use Rattle.model.specs.Answers.{Outcome, outcome, ◌or_else◌, ◌given◌, unfinished}
 use Rattle.model.specs.Bitmaps.{is, allocated, marked, gray, pointer, put_bit, put_bits}

@@ -1,7 +1,6 @@
 -- What several functions require of the contents of the buffers that they are lent, where it is not a whole heap: each requirement under one name.
-use Rattle.std.specs.Prelude.{ℕ, ◌+◌, ◌*◌, ◌%◌, ◌<◌, ◌≤◌, Bool, true, cond, List, ◌≡◌, length, get_or}
+use Rattle.std.specs.Prelude.{ℕ, ◌+◌, ◌*◌, ◌%◌, ◌<◌, ◌≤◌, Bool, true, cond, List, ◌≡◌, length, get_or, ◌==◌}
 use Rattle.model.specs.Memory.{max_pages, word_bits, entry_numbers, kind_offset, unswept_flag, bitmap_words, root_words, first_state, page_of}
-use Rattle.model.specs.Bounded.{◌==◌}
 use Rattle.model.specs.Bitmaps.{bit_of}
 use Rattle.model.specs.Spans.{kind_entry, span_of}
 use Rattle.model.specs.Facts.{Spans, IsSpan, Bits, Reference}

@@ -1,7 +1,7 @@
 -- Lent memory: the four buffers with their lengths, what stands where in them, and addresses, each limit and offset named once. Addresses, page
 -- numbers and word numbers are numbers here; in the code each has a type of its own (crate units).
-use Rattle.std.specs.Prelude.{ℕ, ◌+◌, ◌-◌, ◌*◌, ◌/◌, Bool, ◌&&◌, cond, List, length, get_or, set}
-use Rattle.model.specs.Bounded.{◌==◌, ◌≤?◌, write_run}
+use Rattle.std.specs.Prelude.{ℕ, ◌+◌, ◌-◌, ◌*◌, ◌/◌, Bool, ◌&&◌, cond, List, length, get_or, set, ◌==◌}
+use Rattle.model.specs.Bounded.{◌≤?◌, write_run}
 
 -- "P is the number of pages, 1 to 256."
 abbrev pub max_pages : ℕ

@@ -1,6 +1,6 @@
 -- Shading and the barrier. Shading changes the bitmaps alone: here they go in and come out, for a heap of P pages and page table t.
-use Rattle.std.specs.Prelude.{ℕ, ◌*◌, Bool, true, ◌&&◌, not, List}
-use Rattle.model.specs.Bounded.{◌==◌, if◌then◌else◌, count_below, fold_below}
+use Rattle.std.specs.Prelude.{ℕ, ◌*◌, Bool, true, ◌&&◌, not, List, ◌==◌, if◌then◌else◌}
+use Rattle.model.specs.Bounded.{count_below, fold_below}
 use Rattle.model.specs.Memory.{Heap, page_words, nil, phase, mark}
 use Rattle.model.specs.Bitmaps.{bit_in, put_bit, marked, gray}
 use Rattle.model.specs.Spans.{is_scan, span_of, record_of}

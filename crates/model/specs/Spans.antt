@@ -1,6 +1,6 @@
 -- The page table, spans and elements: what a page's entry says, and the span and the element that a word lies in.
-use Rattle.std.specs.Prelude.{ℕ, ◌+◌, ◌-◌, ◌*◌, ◌/◌, ◌%◌, Bool, ◌&&◌, not, cond, List, get_or, set}
-use Rattle.model.specs.Bounded.{◌==◌, ◌<?◌, ◌≤?◌, first_below, write_run}
+use Rattle.std.specs.Prelude.{ℕ, ◌+◌, ◌-◌, ◌*◌, ◌/◌, ◌%◌, Bool, ◌&&◌, not, cond, List, get_or, set, ◌==◌}
+use Rattle.model.specs.Bounded.{◌<?◌, ◌≤?◌, first_below, write_run}
 use Rattle.model.specs.Memory.{Heap, entry_numbers, count_offset, kind_offset, unswept_flag, page_of, first_word, word_of}
 use Rattle.model.specs.Classes.{element_words_of, elements_of}
 use Rattle.model.specs.Bitmaps.{is, allocated, marked, pointer}

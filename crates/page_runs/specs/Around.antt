@@ -1,6 +1,6 @@
 -- The run of free pages around a page.
-use Rattle.std.specs.Prelude.{ℕ, ◌+◌, ◌-◌, not, List}
-use Rattle.model.specs.Bounded.{◌≤?◌, if◌then◌else◌, first_below}
+use Rattle.std.specs.Prelude.{ℕ, ◌+◌, ◌-◌, not, List, if◌then◌else◌}
+use Rattle.model.specs.Bounded.{◌≤?◌, first_below}
 use Rattle.model.specs.Spans.{is_free}
 use Rattle.model.specs.Allocate.{run_length}
 

@@ -1,6 +1,6 @@
 -- The work of one line of a trace: what is written for it, the buffers that the next line finds, and whether the run goes on.
-use Rattle.std.specs.Prelude.{ℕ, ◌≤◌, ◌+◌, Bool, true, false, ◌&&◌, List, ◌≡◌}
-use Rattle.model.specs.Bounded.{◌≤?◌, if◌then◌else◌}
+use Rattle.std.specs.Prelude.{ℕ, ◌≤◌, ◌+◌, Bool, true, false, ◌&&◌, List, ◌≡◌, if◌then◌else◌}
+use Rattle.model.specs.Bounded.{◌≤?◌}
 use Rattle.model.specs.Memory.{Heap, lent}
 use Rattle.model.specs.Answers.{Outcome, accepted, bad_buffers}
 use Rattle.model.specs.Calls as model

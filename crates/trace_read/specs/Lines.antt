@@ -1,6 +1,6 @@
 -- What a line of a trace reads as: the bytes before its line feed become the call that they ask for, or do not read.
-use Rattle.std.specs.Prelude.{ℕ, ◌+◌, ◌-◌, ◌*◌, ◌^◌, ◌≤◌, Bool, ◌&&◌, List, [], ◌∷◌, ◌≡◌, length, drop}
-use Rattle.model.specs.Bounded.{◌==◌, ◌<?◌, ◌≤?◌, if◌then◌else◌}
+use Rattle.std.specs.Prelude.{ℕ, ◌+◌, ◌-◌, ◌*◌, ◌^◌, ◌≤◌, Bool, ◌&&◌, List, [], ◌∷◌, ◌≡◌, length, drop, ◌==◌, if◌then◌else◌}
+use Rattle.model.specs.Bounded.{◌<?◌, ◌≤?◌}
 use Rattle.model.specs.declared.Call.TheVariants.{Open, Close, Allocate, Copy, Clear, Load, Store, Put, Get, LoadGlobal, StoreGlobal, Start, ScanStack, ScanGlobals, MarkStep, Finish, SweepStep}
 use Rattle.trace_read.specs.declared.Line.{Line}
 use Rattle.trace_read.specs.declared.Line.TheVariants.{Bad, Setup, Call}

@@ -1,6 +1,6 @@
 -- Input split into lines: what the bytes of a block, from a place on, make of the line under way.
-use Rattle.std.specs.Prelude.{ℕ, ◌+◌, ◌-◌, ◌≤◌, min, List, ◌≡◌, length, get_or}
-use Rattle.model.specs.Bounded.{◌==◌, ◌<?◌, if◌then◌else◌, first_below}
+use Rattle.std.specs.Prelude.{ℕ, ◌+◌, ◌-◌, ◌≤◌, min, List, ◌≡◌, length, get_or, ◌==◌, if◌then◌else◌}
+use Rattle.model.specs.Bounded.{◌<?◌, first_below}
 use Rattle.model.specs.Memory.{put_words}
 use Rattle.model.specs.Promises.{Buffer}
 use Rattle.trace_read.specs.Lines.{longest_line}

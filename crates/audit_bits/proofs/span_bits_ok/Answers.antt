@@ -4,7 +4,8 @@ use mathlib.Core.Bool.{Bool, ◌&&◌}
 use mathlib.Core.List.{List}
 use mathlib.Core.Path.{◌≡◌, ◌∙◌}
 use Prim.Native.Nat.{ℕ, ◌*◌}
-use Rattle.model.specs.Bounded.{◌==◌, all_below}
+use Rattle.std.specs.Prelude.{◌==◌}
+use Rattle.model.specs.Bounded.{all_below}
 use Rattle.model.specs.Memory.{mark, first_word}
 use Rattle.model.specs.Classes.{element_words_of, elements_of}
 use Rattle.page_table.specs.declared.Span.{Span}

@@ -3,7 +3,6 @@ use mathlib.Core.Path.{refl, sym, ◌∙◌}
 use Rattle.model.specs.declared.Call.TheVariants.{Load}
 use Rattle.model.proofs.Checks.{entry_passed}
 use Rattle.model.proofs.Outcomes.{entered, not_entered}
-use borrow.Author.Rules.{rules}
 use Rattle.c_records.proofs.heap_load.Goals as goal
 
 pub entry-refusal-requires : goal.entry-refusal-requires

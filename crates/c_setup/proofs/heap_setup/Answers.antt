@@ -4,7 +4,6 @@ use Rattle.model.specs.declared.Call.TheVariants.{Setup}
 use Rattle.model.proofs.Checks.{lengths_passed}
 use Rattle.model.proofs.Outcomes.{entered, not_entered}
 use Rattle.call_setup.proofs.Emptied.{set_up}
-use borrow.Author.Rules.{rules}
 use Rattle.c_setup.proofs.heap_setup.Goals as goal
 
 pub buffers_refusal-refusal-requires : goal.buffers_refusal-refusal-requires

@@ -3,7 +3,6 @@ use mathlib.Core.Path.{refl, sym, ◌∙◌}
 use Rattle.model.specs.declared.Call.TheVariants.{Open}
 use Rattle.model.proofs.Checks.{entry_passed}
 use Rattle.model.proofs.Outcomes.{entered, not_entered}
-use borrow.Author.Rules.{rules}
 use Rattle.c_stacks.proofs.heap_open.Goals as goal
 
 pub entry-refusal-requires : goal.entry-refusal-requires

@@ -9,7 +9,8 @@ use native.Mathlib.Omega.{arith}
 use lib.Dec.{eqb, eqb-zero-suc, eqb-suc-zero}
 use lib.ListN.{get_or}
 use borrow.Author.Tests.{eqb-true}
-use Rattle.model.specs.Bounded.{◌==◌, all_below, fold_below}
+use Rattle.std.specs.Prelude.{◌==◌}
+use Rattle.model.specs.Bounded.{all_below, fold_below}
 use Rattle.model.specs.Memory.{word_bits}
 use Rattle.model.specs.Bitmaps.{bit_of}
 use Rattle.model.proofs.Bounded.{all_at}

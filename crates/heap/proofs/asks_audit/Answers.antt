@@ -1,7 +1,6 @@
 -- `heap::asks_audit` meets its contract: setup does not, and each other call does.
 use mathlib.Core.Path.{sym}
 use Rattle.heap.proofs.Asks.{asks}
-use borrow.Author.Rules.{rules}
 use Rattle.heap.proofs.asks_audit.Goals as goal
 
 pub returns-in-Setup : goal.returns-in-Setup

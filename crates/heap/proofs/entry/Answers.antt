@@ -1,6 +1,5 @@
 -- `heap::entry` meets its contract: the entry check, where the call asks the audit.
 use mathlib.Core.Path.{sym, ◌∙◌}
-use borrow.Author.Rules.{rules}
 use Rattle.heap.proofs.entry.Goals as goal
 
 pub returns-then-asks_audit : goal.returns-then-asks_audit

@@ -1,7 +1,6 @@
 -- `heap::make` meets its contract: the entry check, then the audited call.
 use mathlib.Core.Path.{sym, ◌∙◌}
 use Rattle.model.proofs.Outcomes.{entered, not_entered}
-use borrow.Author.Rules.{rules}
 use Rattle.heap.proofs.make.Goals as goal
 
 pub returns-then-refusal-ne0 : goal.returns-then-refusal-ne0
