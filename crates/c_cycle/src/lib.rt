@@ -38,7 +38,8 @@ pub extern "C" fn heap_scan_stack(
     s: u64,
     out: &mut [u64; 3],
 ) -> u64
-    ensures { Exports (ScanStack s) p (shared arena) (shared table) (exclusive bits) (exclusive roots) (exclusive out) result }
+    ensures { Exports (ScanStack s) p (shared arena) (shared table) (exclusive bits)
+        (exclusive roots) (exclusive out) result }
 {
     let refusal = audit::entry(p, arena, table, bits, roots);
     if refusal != 0 {
@@ -57,7 +58,8 @@ pub extern "C" fn heap_scan_globals(
     roots: &mut [u64],
     out: &mut [u64; 3],
 ) -> u64
-    ensures { Exports ScanGlobals p (shared arena) (shared table) (exclusive bits) (exclusive roots) (exclusive out) result }
+    ensures { Exports ScanGlobals p (shared arena) (shared table) (exclusive bits)
+        (exclusive roots) (exclusive out) result }
 {
     let refusal = audit::entry(p, arena, table, bits, roots);
     if refusal != 0 {
@@ -114,7 +116,8 @@ pub extern "C" fn heap_sweep_step(
     roots: &mut [u64],
     out: &mut [u64; 3],
 ) -> u64
-    ensures { Exports SweepStep p (shared arena) (exclusive table) (exclusive bits) (exclusive roots) (exclusive out) result }
+    ensures { Exports SweepStep p (shared arena) (exclusive table) (exclusive bits)
+        (exclusive roots) (exclusive out) result }
 {
     let refusal = audit::entry(p, arena, table, bits, roots);
     if refusal != 0 {

@@ -23,7 +23,8 @@ pub extern "C" fn heap_alloc(
     pointers: u64,
     out: &mut [u64; 3],
 ) -> u64
-    ensures { Exports (Allocate s i size pointers) p (exclusive arena) (exclusive table) (exclusive bits) (exclusive roots) (exclusive out) result }
+    ensures { Exports (Allocate s i size pointers) p (exclusive arena) (exclusive table)
+        (exclusive bits) (exclusive roots) (exclusive out) result }
 {
     let refusal = audit::entry(p, arena, table, bits, roots);
     if refusal != 0 {
@@ -48,7 +49,8 @@ pub extern "C" fn heap_load(
     f: u64,
     out: &mut [u64; 3],
 ) -> u64
-    ensures { Exports (Load s i j f) p (shared arena) (shared table) (shared bits) (exclusive roots) (exclusive out) result }
+    ensures { Exports (Load s i j f) p (shared arena) (shared table) (shared bits)
+        (exclusive roots) (exclusive out) result }
 {
     let refusal = audit::entry(p, arena, table, bits, roots);
     if refusal != 0 {
@@ -71,7 +73,8 @@ pub extern "C" fn heap_store(
     k: u64,
     out: &mut [u64; 3],
 ) -> u64
-    ensures { Exports (Store s j f k) p (exclusive arena) (shared table) (exclusive bits) (shared roots) (exclusive out) result }
+    ensures { Exports (Store s j f k) p (exclusive arena) (shared table) (exclusive bits)
+        (shared roots) (exclusive out) result }
 {
     let refusal = audit::entry(p, arena, table, bits, roots);
     if refusal != 0 {
@@ -94,7 +97,8 @@ pub extern "C" fn heap_put(
     v: u64,
     out: &mut [u64; 3],
 ) -> u64
-    ensures { Exports (Put s j f v) p (exclusive arena) (shared table) (shared bits) (shared roots) (exclusive out) result }
+    ensures { Exports (Put s j f v) p (exclusive arena) (shared table) (shared bits) (shared roots)
+        (exclusive out) result }
 {
     let refusal = audit::entry(p, arena, table, bits, roots);
     if refusal != 0 {
@@ -138,7 +142,8 @@ pub extern "C" fn heap_store_global(
     i: u64,
     out: &mut [u64; 3],
 ) -> u64
-    ensures { Exports (StoreGlobal s g i) p (shared arena) (shared table) (exclusive bits) (exclusive roots) (exclusive out) result }
+    ensures { Exports (StoreGlobal s g i) p (shared arena) (shared table) (exclusive bits)
+        (exclusive roots) (exclusive out) result }
 {
     let refusal = audit::entry(p, arena, table, bits, roots);
     if refusal != 0 {

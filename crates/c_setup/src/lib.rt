@@ -22,7 +22,8 @@ pub extern "C" fn heap_setup(
     roots: &mut [u64],
     out: &mut [u64; 3],
 ) -> u64
-    ensures { Exports Setup p (shared arena) (exclusive table) (exclusive bits) (exclusive roots) (exclusive out) result }
+    ensures { Exports Setup p (shared arena) (exclusive table) (exclusive bits) (exclusive roots)
+        (exclusive out) result }
 {
     let refusal = audit::buffers_refusal(p, arena, table, bits, roots);
     if refusal != 0 {

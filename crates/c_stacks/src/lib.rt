@@ -61,7 +61,8 @@ pub extern "C" fn heap_copy(
     j: u64,
     out: &mut [u64; 3],
 ) -> u64
-    ensures { Exports (Copy s i j) p (shared arena) (shared table) (shared bits) (exclusive roots) (exclusive out) result }
+    ensures { Exports (Copy s i j) p (shared arena) (shared table) (shared bits) (exclusive roots)
+        (exclusive out) result }
 {
     let refusal = audit::entry(p, arena, table, bits, roots);
     if refusal != 0 {
@@ -82,7 +83,8 @@ pub extern "C" fn heap_clear(
     i: u64,
     out: &mut [u64; 3],
 ) -> u64
-    ensures { Exports (Clear s i) p (shared arena) (shared table) (shared bits) (exclusive roots) (exclusive out) result }
+    ensures { Exports (Clear s i) p (shared arena) (shared table) (shared bits) (exclusive roots)
+        (exclusive out) result }
 {
     let refusal = audit::entry(p, arena, table, bits, roots);
     if refusal != 0 {
@@ -104,7 +106,8 @@ pub extern "C" fn heap_load_global(
     g: u64,
     out: &mut [u64; 3],
 ) -> u64
-    ensures { Exports (LoadGlobal s i g) p (shared arena) (shared table) (shared bits) (exclusive roots) (exclusive out) result }
+    ensures { Exports (LoadGlobal s i g) p (shared arena) (shared table) (shared bits)
+        (exclusive roots) (exclusive out) result }
 {
     let refusal = audit::entry(p, arena, table, bits, roots);
     if refusal != 0 {

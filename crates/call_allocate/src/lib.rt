@@ -74,7 +74,8 @@ pub fn allocate(
     pointers: u64,
 ) -> Answer
     requires { AuditedHeap p arena.old table.old bits.old roots.old }
-    ensures { Does (λ h. allocate h s i size pointers) p (exclusive arena) (exclusive table) (exclusive bits) (exclusive roots) result }
+    ensures { Does (λ h. allocate h s i size pointers) p (exclusive arena) (exclusive table)
+        (exclusive bits) (exclusive roots) result }
 {
     let place = record_room::choose(p, table, bits, roots, s, i, size, pointers);
     let refusal = place.refusal;

@@ -10,7 +10,8 @@ ghost use Rattle.model.specs.Spans.{pointer_count};
 ghost use Rattle.model.specs.Cycle.{first_gray, mark_step, finish_refusal, finish};
 ghost use Rattle.model.specs.Facts.{Element};
 ghost use Rattle.model.specs.Lent.{Roots, Bitmaps, Mapped};
-ghost use Rattle.model.specs.Promises.{AuditedHeap, AuditedTables, Does, DoesWithoutArena, GivesByRoots, exclusive, shared};
+ghost use Rattle.model.specs.Promises.{AuditedHeap, AuditedTables, Does, DoesWithoutArena};
+ghost use Rattle.model.specs.Promises.{GivesByRoots, exclusive, shared};
 ghost use Rattle.model.specs.Promises.{ByTables, ByBits, ByBitsAndRoots};
 ghost use Rattle.call_cycle_marks.specs.Needs.{LentGray, ScansRecord, roots_refusal};
 

@@ -57,7 +57,8 @@ fn set_up(
     at: usize,
 ) -> LineResult
     requires { at + longest_answer ≤ length out.old }
-    ensures { PlaysLine (played_setup p) 0 (exclusive arena) (exclusive table) (exclusive bits) (exclusive roots) (exclusive out) at result }
+    ensures { PlaysLine (played_setup p) 0 (exclusive arena) (exclusive table) (exclusive bits)
+        (exclusive roots) (exclusive out) at result }
 {
     if p == 0 {
         let e = trace_write::write_answer(out, at, Answer::Refused(units::BAD_BUFFERS));
@@ -84,7 +85,8 @@ pub fn first_line(
     at: usize,
 ) -> LineResult
     requires { at + longest_answer ≤ length out.old }
-    ensures { PlaysLine (first (read_line line.now)) 0 (exclusive arena) (exclusive table) (exclusive bits) (exclusive roots) (exclusive out) at result }
+    ensures { PlaysLine (first (read_line line.now)) 0 (exclusive arena) (exclusive table)
+        (exclusive bits) (exclusive roots) (exclusive out) at result }
 {
     let Line::Setup(p) = trace_read::read(line) else {
         let e = trace_write::write_bad(out, at, 1);
@@ -106,7 +108,8 @@ pub fn later_line(
     at: usize,
 ) -> LineResult
     requires { at + longest_answer ≤ length out.old }
-    ensures { PlaysLine (later (read_line line.now) number) p (exclusive arena) (exclusive table) (exclusive bits) (exclusive roots) (exclusive out) at result }
+    ensures { PlaysLine (later (read_line line.now) number) p (exclusive arena) (exclusive table)
+        (exclusive bits) (exclusive roots) (exclusive out) at result }
 {
     let Line::Call(call) = trace_read::read(line) else {
         let e = trace_write::write_bad(out, at, number);
