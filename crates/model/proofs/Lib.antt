@@ -14,6 +14,7 @@ pub mod Lent
 pub mod Checks
 pub mod Shading
 pub mod Outcomes
+pub mod Refusals
 pub mod Tempting
 pub mod Effects
 pub mod Sweeps

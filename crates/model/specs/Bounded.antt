@@ -1,6 +1,6 @@
 -- The combinators that carry all definitions: tests, searches, counts and folds over the numbers below a bound, and runs of writes.
 -- Their laws are in proofs/Bounded.antt.
-use Rattle.std.specs.Prelude.{ℕ, zero, suc, ◌+◌, Bool, true, false, cond, ◌&&◌, not, leb, ltb, if◌then◌else◌}
+use Rattle.std.specs.Prelude.{ℕ, zero, suc, ◌+◌, Bool, true, false, ◌&&◌, not, leb, ltb, if◌then◌else◌}
 
 infix 40 ◌<?◌ ◌≤?◌
 infixr 25 ◌implies◌

@@ -1,8 +1,7 @@
 // Addresses, page numbers and word numbers as types of their own, so that one cannot be given for
 // another, with the conversions between them; and the limits and offsets of lent memory, each once, as
-// the model has them in specs/Memory.antt and the refusals in specs/Answers.antt. What counts or
-// indexes is a usize; what is compared with the words of a buffer or with a size in bytes is a u64,
-// with the numbers of the page table a u32.
+// the model has them in specs/Memory.antt. What counts or indexes is a usize; what is compared with the
+// words of a buffer or with a size in bytes is a u64, with the numbers of the page table a u32.
 #![tactic(auto)]
 
 ghost use Rattle.std.specs.Prelude.{◌≡◌, ◌*◌, ◌≤◌, eqb};
@@ -74,27 +73,6 @@ pub const UNSWEPT_FLAG: u32 = 256;
 pub const NIL: u64 = 0;
 
 const FIRST_ADDRESS: u64 = 8192;
-
-// The refusals, in the order in which they are tested.
-pub const BAD_BUFFERS: u64 = 1;
-
-pub const DAMAGED: u64 = 12;
-
-pub const WRONG_PHASE: u64 = 2;
-
-pub const BAD_STACK: u64 = 3;
-
-pub const BAD_SLOT: u64 = 4;
-
-pub const BAD_SIZE: u64 = 5;
-
-pub const NIL_SLOT: u64 = 6;
-
-pub const BAD_FIELD: u64 = 7;
-
-pub const NO_ROOM: u64 = 9;
-
-pub const UNFINISHED: u64 = 10;
 
 // The address of an arena word, or any number that stands where one may.
 #[derive(Clone, Copy)]
