@@ -9,12 +9,11 @@ ghost use Rattle.model.specs.Checks.{buffers_refusal};
 ghost use Rattle.model.specs.Audit.{audit};
 ghost use Rattle.model.specs.Calls.{entry};
 ghost use Rattle.model.specs.Facts.{Sized};
+ghost use Rattle.model.specs.Refusals.{refused};
 ghost use Rattle.model.specs.Promises.{SizedHeap, found, shared};
 
-use units::{
-    BAD_BUFFERS, BITMAP_WORDS, DAMAGED, ENTRY_NUMBERS, MAX_PAGES, PAGE_WORDS, PHASE, ROOT_WORDS,
-    SWEEP,
-};
+use model::Refusal;
+use units::{BITMAP_WORDS, ENTRY_NUMBERS, MAX_PAGES, PAGE_WORDS, PHASE, ROOT_WORDS, SWEEP};
 
 // P is 1 to MAX_PAGES, and the four buffers have its lengths.
 fn buffers_ok(p: u64, arena: &[u64], table: &[u32], bits: &[u64], roots: &[u64]) -> bool
@@ -61,27 +60,35 @@ fn audit(p: usize, arena: &[u64], table: &[u32], bits: &[u64], roots: &[u64]) ->
     audit_words::contents_ok(p, arena, table, bits, swept)
 }
 
-// The refusal of P and the lengths, or 0.
-pub fn buffers_refusal(p: u64, arena: &[u64], table: &[u32], bits: &[u64], roots: &[u64]) -> u64
-    ensures { result ≡ buffers_refusal (found p (shared arena) (shared table) (shared bits) (shared roots)) }
+// The refusal of P and the lengths.
+pub fn check_buffers(
+    p: u64,
+    arena: &[u64],
+    table: &[u32],
+    bits: &[u64],
+    roots: &[u64],
+) -> Result<(), Refusal>
+    ensures { refused result ≡ buffers_refusal (found p (shared arena) (shared table) (shared bits) (shared roots)) }
 {
     if !buffers_ok(p, arena, table, bits, roots) {
-        return BAD_BUFFERS;
+        return Err(Refusal::BadBuffers);
     }
-    0
+    Ok(())
 }
 
-// The refusal that every call after setup gives first: 1 for P and the lengths, 12 for damaged
-// buffers, 0 for neither.
-pub fn entry(p: u64, arena: &[u64], table: &[u32], bits: &[u64], roots: &[u64]) -> u64
-    ensures { result ≡ entry (found p (shared arena) (shared table) (shared bits) (shared roots)) }
+// The refusal that every call after setup gives first: for P and the lengths, or for damaged buffers.
+pub fn entry(
+    p: u64,
+    arena: &[u64],
+    table: &[u32],
+    bits: &[u64],
+    roots: &[u64],
+) -> Result<(), Refusal>
+    ensures { refused result ≡ entry (found p (shared arena) (shared table) (shared bits) (shared roots)) }
 {
-    let refusal = buffers_refusal(p, arena, table, bits, roots);
-    if refusal != 0 {
-        return refusal;
-    }
+    check_buffers(p, arena, table, bits, roots)?;
     if !audit(p as usize, arena, table, bits, roots) {
-        return DAMAGED;
+        return Err(Refusal::Damaged);
     }
-    0
+    Ok(())
 }

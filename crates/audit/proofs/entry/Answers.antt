@@ -1,24 +1,20 @@
-use mathlib.Core.Path.{◌≡◌, sym, ◌∙◌}
-use Rattle.model.specs.Memory.{lent}
-use Rattle.model.specs.Checks.{buffers_refusal}
+use Rattle.std.proofs.lemmas.Result.{err_from_is_err_and}
+use mathlib.Core.Path.{sym, ◌∙◌}
 use Rattle.model.proofs.Checks.{lengths_passed}
+use Rattle.model.proofs.Refusals.{number_some}
 use Rattle.audit.proofs.Refusals.{refused_lengths, damaged_buffers, good_entry}
 use Rattle.audit.proofs.entry.Goals as goal
 
-pub returns-then-refusal-ne0 : goal.returns-then-refusal-ne0
-returns-then-refusal-ne0 c = refused_lengths _ c.buffers_refusal-refusal.ensures c.if-refusal-ne0.true
+pub returns-in_err-check_buffers : goal.returns-in_err-check_buffers
+returns-in_err-check_buffers c =
+    let p = err_from_is_err_and c.from_residual.result c.from_residual.ensures.1 in
+    rw (p.1, p.2) (refused_lengths _ c.in_err-check_buffers.ensures (number_some _))
 
 pub audit-requires : goal.audit-requires
-audit-requires c =
-    let passed : let a = c.args in buffers_refusal (lent a.p a.arena.now a.table.now a.bits.now a.roots.now) ≡ 0 = sym c.buffers_refusal-refusal.ensures ∙ c.if-refusal-ne0.false in
-    lengths_passed _ passed
+audit-requires c = lengths_passed _ (sym c.in_ok-check_buffers.ensures)
 
 pub returns-then-not-audit : goal.returns-then-not-audit
-returns-then-not-audit c =
-    let passed : let a = c.args in buffers_refusal (lent a.p a.arena.now a.table.now a.bits.now a.roots.now) ≡ 0 = sym c.buffers_refusal-refusal.ensures ∙ c.if-refusal-ne0.false in
-    damaged_buffers _ passed (sym c.audit.ensures ∙ c.if-not-audit.true)
+returns-then-not-audit c = damaged_buffers _ (sym c.in_ok-check_buffers.ensures) (sym c.audit.ensures ∙ c.if-not-audit.true)
 
 pub returns : goal.returns
-returns c =
-    let passed : let a = c.args in buffers_refusal (lent a.p a.arena.now a.table.now a.bits.now a.roots.now) ≡ 0 = sym c.buffers_refusal-refusal.ensures ∙ c.if-refusal-ne0.false in
-    good_entry _ passed (sym c.audit.ensures ∙ c.if-not-audit.false)
+returns c = good_entry _ (sym c.in_ok-check_buffers.ensures) (sym c.audit.ensures ∙ c.if-not-audit.false)
