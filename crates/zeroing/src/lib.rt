@@ -5,25 +5,31 @@
 ghost use Rattle.std.specs.Prelude.{◌≡◌, ◌+◌, ◌≤◌, length, replicate};
 ghost use Rattle.model.specs.Memory.{put_words};
 
-// Every word becomes 0.
-pub fn zero(ws: &mut [u64])
-    ensures { ws.new ≡ replicate (length ws.old) 0 }
-{
-    let mut i = 0;
-    while i < ws.len() {
-        ws[i] = 0;
-        i += 1;
-    }
+// What a lent slice is of: words, and the page table's numbers.
+pub trait HasZero: Copy {
+    ghost ZERO: { Self };
+
+    const ZERO: Self;
 }
 
-// Every number becomes 0.
-pub fn zero_numbers(ns: &mut [u32])
-    ensures { ns.new ≡ replicate (length ns.old) 0 }
+impl HasZero for u64 {
+    ghost ZERO = { 0 };
+
+    const ZERO: u64 = 0;
+}
+
+impl HasZero for u32 {
+    ghost ZERO = { 0 };
+
+    const ZERO: u32 = 0;
+}
+
+// Every word, or number, becomes 0.
+pub fn zero<T: HasZero>(ws: &mut [T])
+    ensures { ws.new ≡ replicate (length ws.old) T.ZERO }
 {
-    let mut k = 0;
-    while k < ns.len() {
-        ns[k] = 0;
-        k += 1;
+    for w in ws.iter_mut() {
+        *w = T::ZERO;
     }
 }
 
