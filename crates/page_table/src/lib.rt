@@ -4,7 +4,7 @@
 // crate page_runs finds room among its free pages.
 #![tactic(auto)]
 
-ghost use Rattle.std.specs.Prelude.{◌≡◌, ◌-◌, ◌<◌, length, get_or};
+ghost use Rattle.std.specs.Prelude.{◌≡◌, ◌-◌};
 ghost use Rattle.model.specs.Spans.{owner, page_count, kind_entry, starts_span, span_of};
 ghost use Rattle.model.specs.Lent.{HasEntry, WordEntries};
 ghost use Rattle.page_table.specs.Span.{Reads};
@@ -16,42 +16,32 @@ pub const COUNT: usize = 1;
 
 pub const KIND: usize = 2;
 
-fn wide(x: u32) -> usize
-    ensures { result ≡ x }
-{
-    x as usize
-}
-
-// Number i of the table.
-fn number(table: &[u32], i: usize) -> usize
-    requires { i < length table.now }
-    ensures { result ≡ get_or table.now i 0 }
-{
-    wide(table[i])
-}
-
-// The start page + 1 of the span that page g belongs to, 0 for a free page.
+// The start page + 1 of the span that page g belongs to, 0 for a free page. Not an Option: what the
+// document's table holds is this number, and the audit and the model compare it as it stands.
+#[tactic(auto, unfolding(model::specs::Spans::owner))]
 pub fn owner(table: &[u32], g: Page) -> usize
     requires { HasEntry table.now g.0 }
     ensures { result ≡ owner table.now g.0 }
 {
-    number(table, ENTRY_NUMBERS * g.0)
+    table[ENTRY_NUMBERS * g.0] as usize
 }
 
 // The page count in page g's entry.
+#[tactic(auto, unfolding(model::specs::Spans::page_count))]
 pub fn page_count(table: &[u32], g: Page) -> usize
     requires { HasEntry table.now g.0 }
     ensures { result ≡ page_count table.now g.0 }
 {
-    number(table, ENTRY_NUMBERS * g.0 + COUNT)
+    table[ENTRY_NUMBERS * g.0 + COUNT] as usize
 }
 
 // The kind in page g's entry, with the unswept flag.
+#[tactic(auto, unfolding(model::specs::Spans::kind_entry))]
 pub fn kind_entry(table: &[u32], g: Page) -> usize
     requires { HasEntry table.now g.0 }
     ensures { result ≡ kind_entry table.now g.0 }
 {
-    number(table, ENTRY_NUMBERS * g.0 + KIND)
+    table[ENTRY_NUMBERS * g.0 + KIND] as usize
 }
 
 // A span starts at page g.
@@ -59,8 +49,7 @@ pub fn starts_span(table: &[u32], g: Page) -> bool
     requires { HasEntry table.now g.0 }
     ensures { result ≡ starts_span table.now g.0 }
 {
-    let at = g.0;
-    owner(table, g) == at + 1
+    owner(table, g) == g.0 + 1
 }
 
 // The start page of the span that page g belongs to, 0 for a free page.
@@ -69,10 +58,7 @@ fn span_of_page(table: &[u32], g: Page) -> Page
     ensures { result.0 ≡ owner table.now g.0 - 1 }
 {
     let first = owner(table, g);
-    if first == 0 {
-        return Page(0);
-    }
-    Page(first - 1)
+    Page(first.saturating_sub(1))
 }
 
 // A span as the entry of its first page describes it, read once and handed on. `flagged` is the kind
@@ -99,8 +85,8 @@ pub fn span_at(table: &[u32], s: Page) -> Span
     Span {
         start: s,
         pages: page_count(table, s),
-        flagged: flagged,
-        kind: kind,
+        flagged,
+        kind,
         class: kind / 2,
         scan: kind % 2 == 0,
         unswept: flag <= flagged,

@@ -10,4 +10,4 @@ pub returns : goal.returns
 unfolding page_count
 returns c =
     let k = c.kind_entry-flagged.ensures in
-    record { start = refl; pages = c.page_count.ensures; flagged = k; kind = rw k; class = rw k; scan = rw k; unswept = rw k; narrow = omega (arith, c.page_count.ensures, c.shared_slice_known-1.given (entry_numbers * c.args.s.0 + count_offset)) }
+    record { start = refl; pages = c.page_count.ensures; flagged = k; kind = rw k; class = rw k; scan = rw k; unswept = rw k; narrow = omega (arith, c.page_count.ensures, c.type_inv.table (entry_numbers * c.args.s.0 + count_offset)) }
