@@ -9,6 +9,7 @@ ghost use Rattle.model.specs.Memory.{entry_numbers};
 ghost use Rattle.model.specs.Allocate.{run_length, best_run};
 ghost use Rattle.model.specs.Lent.{PageTable};
 ghost use Rattle.page_runs.specs.Around.{run_start, run_around};
+ghost use Rattle.page_runs.specs.Found.{FoundPage};
 
 use units::{ENTRY_NUMBERS, Page};
 
@@ -17,39 +18,34 @@ fn run_length(p: usize, table: &[u32], g: Page) -> usize
     requires { PageTable p table.now × (g.0 ≤ p) }
     ensures { result ≡ run_length p table.now g.0 }
 {
-    let first = g.0;
-    let mut k = first;
-    while k < p {
+    for k in g.0..p {
         if table[ENTRY_NUMBERS * k] != 0 {
-            return k - first;
+            return k - g.0;
         }
-        k += 1;
     }
-    p - first
+    p - g.0
 }
 
-// The first page of the shortest maximal run of at least n free pages, the lowest among equals, or
-// p. In the loop no free page stands before page g. One turn passes g's run and the page that ends
-// it, so each page is read once.
-pub fn best_run(p: usize, table: &[u32], n: usize) -> Page
+// The first page of the shortest maximal run of at least n free pages, the lowest among equals, if there
+// is one. In the loop no free page stands before page g.
+pub fn best_run(p: usize, table: &[u32], n: usize) -> Option<Page>
     requires { PageTable p table.now × (0 < n) }
-    ensures { result.0 ≡ best_run p table.now n }
+    ensures { FoundPage p (best_run p table.now n) result }
 {
     let mut g = 0;
-    let mut best = p;
+    let mut best = None;
     let mut least = p + 1;
+    // Not a for: a turn passes g's run and the page that ends it, so that each page is read once.
     while g < p {
         let at = g;
         let l = run_length(p, table, Page(at));
         g = at + l + 1;
-        if n <= l {
-            if l < least {
-                best = at;
-                least = l;
-            }
+        if n <= l && l < least {
+            best = Some(Page(at));
+            least = l;
         }
     }
-    Page(best)
+    best
 }
 
 // The first page of the run of free pages that ends at page s or goes on behind it. Page s itself is
@@ -58,26 +54,23 @@ fn run_start(table: &[u32], s: Page) -> Page
     requires { entry_numbers * s.0 ≤ length table.now }
     ensures { result.0 ≡ run_start table.now s.0 }
 {
-    let mut first = s.0;
-    while 0 < first {
-        let below = first - 1;
+    for below in (0..s.0).rev() {
         if table[ENTRY_NUMBERS * below] != 0 {
-            return Page(first);
+            return Page(below + 1);
         }
-        first = below;
     }
-    Page(first)
+    Page(0)
 }
 
-// The first page of the run of free pages around page s if it has at least n pages, or p.
-pub fn run_around(p: usize, table: &[u32], s: Page, n: usize) -> Page
+// The first page of the run of free pages around page s if it has at least n pages.
+pub fn run_around(p: usize, table: &[u32], s: Page, n: usize) -> Option<Page>
     requires { PageTable p table.now × (s.0 < p) }
-    ensures { result.0 ≡ run_around p table.now s.0 n }
+    ensures { FoundPage p (run_around p table.now s.0 n) result }
 {
     let start = run_start(table, s);
     let pages = run_length(p, table, start);
     if n <= pages {
-        return start;
+        return Some(start);
     }
-    Page(p)
+    None
 }
