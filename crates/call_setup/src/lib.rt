@@ -5,17 +5,18 @@
 ghost use Rattle.model.specs.Lent.{Roots};
 ghost use Rattle.call_setup.specs.SetUp.{SetsUp};
 ghost use Rattle.model.specs.Promises.{exclusive};
+ghost use Rattle.model.specs.Refusals.{told};
 
-use model::Answer;
+use model::Accepted;
 
 // The page table and the bitmaps become 0, and so do the roots but for the globals' state.
-pub fn setup(table: &mut [u32], bits: &mut [u64], roots: &mut [u64]) -> Answer
+pub fn setup(table: &mut [u32], bits: &mut [u64], roots: &mut [u64]) -> Accepted
     requires { Roots roots.old }
-    ensures { SetsUp (exclusive table) (exclusive bits) (exclusive roots) result }
+    ensures { SetsUp (exclusive table) (exclusive bits) (exclusive roots) (told result) }
 {
-    zeroing::zero_numbers(table);
+    zeroing::zero(table);
     zeroing::zero(bits);
     zeroing::zero(roots);
     roots[units::GLOBALS_STATE] = units::OPEN;
-    Answer::Done
+    Accepted::Done
 }
