@@ -1,3 +1,2 @@
 pub mod Pass
-pub mod Stacks
 pub mod Stretches

@@ -33,15 +33,9 @@ fn slots_nil(roots: &[u64], s: usize) -> bool
     ensures { T result ↔ EmptyStack roots.now s }
 {
     let first = SLOTS * s;
-    let mut i = 0;
-    while i < SLOTS {
-        let value = roots[first + i];
-        i += 1;
-        if value != NIL {
-            return false;
-        }
-    }
-    true
+    roots[first..first + SLOTS]
+        .iter()
+        .all(|value| *value == NIL)
 }
 
 // Stack s has a legal state, gray only in the mark phase; a closed one is all nil.
@@ -50,13 +44,7 @@ fn stack_ok(roots: &[u64], s: usize) -> bool
     ensures { T result ↔ GoodStack roots.now s }
 {
     let state = roots[FIRST_STATE + s];
-    if state == CLOSED {
-        return slots_nil(roots, s);
-    }
-    if state == GRAY {
-        return roots[PHASE] == MARK;
-    }
-    state == OPEN
+    state == OPEN || state == GRAY && roots[PHASE] == MARK || state == CLOSED && slots_nil(roots, s)
 }
 
 // Every stack is as it should be.
@@ -64,11 +52,8 @@ fn stacks_ok(roots: &[u64]) -> bool
     requires { Roots roots.now }
     ensures { T result ↔ ((s : ℕ) → s < stack_count → GoodStack roots.now s) }
 {
-    let mut s = 0;
-    while s < STACKS {
-        let at = s;
-        s += 1;
-        if !stack_ok(roots, at) {
+    for s in 0..STACKS {
+        if !stack_ok(roots, s) {
             return false;
         }
     }
@@ -82,13 +67,7 @@ fn phase_ok(roots: &[u64]) -> bool
 {
     let phase = roots[PHASE];
     let state = roots[GLOBALS_STATE];
-    if SWEEP < phase {
-        return false;
-    }
-    if state == GRAY {
-        return phase == MARK;
-    }
-    state == OPEN
+    phase <= SWEEP && (state == OPEN || state == GRAY && phase == MARK)
 }
 
 // The states and the phase are legal, and closed stacks are all nil.
@@ -96,10 +75,7 @@ pub fn states_ok(roots: &[u64]) -> bool
     requires { Roots roots.now }
     ensures { T result ↔ States roots.now }
 {
-    if !phase_ok(roots) {
-        return false;
-    }
-    stacks_ok(roots)
+    phase_ok(roots) && stacks_ok(roots)
 }
 
 // The kind is that of one of the classes, at most with the unswept flag, and the page count is its
@@ -120,20 +96,14 @@ fn entry_ok(span: Span) -> bool
     if class != 0 {
         return count == classes::class_pages(class);
     }
-    if count < FEWEST_LARGE {
-        return false;
-    }
-    count <= MOST_LARGE
+    (FEWEST_LARGE..=MOST_LARGE).contains(&count)
 }
 
 // The span is swept, unless the phase is sweep.
 fn flag_ok(unswept: bool, phase: u64) -> bool
     ensures { T result ↔ (phase ≢ sweep → unswept ≡ false) }
 {
-    if phase == SWEEP {
-        return true;
-    }
-    !unswept
+    phase == SWEEP || !unswept
 }
 
 // The entry of page g has neither a page count nor a kind.
@@ -141,10 +111,7 @@ fn bare_entry(table: &[u32], g: Page) -> bool
     requires { HasEntry table.now g.0 }
     ensures { T result ↔ BareEntry table.now g.0 }
 {
-    if page_table::page_count(table, g) != 0 {
-        return false;
-    }
-    page_table::kind_entry(table, g) == 0
+    page_table::page_count(table, g) == 0 && page_table::kind_entry(table, g) == 0
 }
 
 // Page g is a further page of the span at page s.
@@ -152,11 +119,7 @@ fn further_ok(table: &[u32], s: Page, g: Page) -> bool
     requires { HasEntry table.now g.0 × (s.0 < g.0) }
     ensures { T result ↔ Further table.now s.0 g.0 }
 {
-    let start = s.0;
-    if page_table::owner(table, g) != start + 1 {
-        return false;
-    }
-    bare_entry(table, g)
+    page_table::owner(table, g) == s.0 + 1 && bare_entry(table, g)
 }
 
 // So are all pages of the span at page s but its first.
@@ -165,12 +128,8 @@ fn body_ok(p: usize, table: &[u32], s: Page, count: usize) -> bool
     ensures { T result ↔ Body table.now s.0 }
 {
     let start = s.0;
-    let end = start + count;
-    let mut g = start + 1;
-    while g < end {
-        let at = g;
-        g += 1;
-        if !further_ok(table, s, Page(at)) {
+    for g in start + 1..start + count {
+        if !further_ok(table, s, Page(g)) {
             return false;
         }
     }
@@ -185,16 +144,10 @@ fn span_ok(p: usize, table: &[u32], phase: u64, span: Span) -> bool
 {
     let start = span.start.0;
     let count = span.pages;
-    if !entry_ok(span) {
-        return false;
-    }
-    if p - start < count {
-        return false;
-    }
-    if !flag_ok(span.unswept, phase) {
-        return false;
-    }
-    body_ok(p, table, span.start, count)
+    entry_ok(span)
+        && count <= p - start
+        && flag_ok(span.unswept, phase)
+        && body_ok(p, table, span.start, count)
 }
 
 // The page table of p pages is as it should be in this phase.
@@ -203,6 +156,7 @@ pub fn pages_ok(p: usize, table: &[u32], phase: u64) -> bool
     ensures { T result ↔ GoodPages p phase table.now }
 {
     let mut g = 0;
+    // Not a for: a turn passes a free page or a whole span.
     while g < p {
         let at = Page(g);
         let owner = page_table::owner(table, at);
