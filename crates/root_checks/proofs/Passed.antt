@@ -1,40 +1,56 @@
--- Refusals: the longer chains as one more test after a slot's, and what a call that is not refused has passed, from what its refusal gave.
-use Prim.Native.Nat.{ℕ, ◌<◌}
-use mathlib.Core.List.{List, []}
-use mathlib.Core.Path.{◌≡◌, sym, ◌∙◌}
-use Rattle.model.specs.Memory.{Heap, lent, stack_count, slot_count, global_count}
-use Rattle.model.specs.Answers.{◌or_else◌}
-use Rattle.model.specs.Checks.{open_refusal, closed_refusal, slot_number_refusal, global_number_refusal, slot_refusal, slots_refusal, global_refusal}
+-- What the checks give: a test's refusal and a row of refusals, for the search; and what a call answers whose `?` hands a check's refusal on.
+use Prim.Native.Nat.{ℕ}
+use mathlib.Core.Bool.{Bool, true, false}
+use mathlib.Core.List.{List}
+use mathlib.Core.Logic.{◌⊎◌, inl, inr}
+use mathlib.Core.Path.{◌≡◌, refl, sym}
+use Rattle.std.specs.Prelude.{Result, Ok, Err}
+use Rattle.std.specs.Result.{IsErrAnd, result_and}
+use Rattle.std.proofs.lemmas.Bool.Decides.{nat_tests}
+use Rattle.std.proofs.lemmas.Result.{err_from_is_err_and}
+use Rattle.model.specs.Memory.{Heap, lent}
+use Rattle.model.specs.Answers.{◌given◌, ◌or_else◌, outcome, Meets}
+use Rattle.model.specs.Checks.{open_refusal, slot_number_refusal, global_number_refusal, slot_refusal, slots_refusal, global_refusal}
+use Rattle.model.specs.Refusals.{number_of, refused, answered}
+use Rattle.model.specs.declared.Accepted.{Accepted}
+use Rattle.model.specs.declared.Answer.{Answer}
+use Rattle.model.specs.declared.Refusal.{Refusal}
 use Rattle.model.proofs.Outcomes.{or_else_assoc}
-use Rattle.model.proofs.Checks.{passes, open_passed, slot_passed, slots_passed, global_passed}
+use Rattle.model.proofs.Refusals.{refusal_first, none_first, refused_by}
 
-pub slots_chain : (h : Heap) (s i j : ℕ) → slots_refusal h s i j ≡ (slot_refusal h s i or_else slot_number_refusal j)
+-- a refusal with its test
+pub given_tells : (n : ℕ) (b : Bool) → ((b ≡ true) × ((n given b) ≡ n)) ⊎ ((b ≡ false) × ((n given b) ≡ 0))
+unfolding ◌given◌
+given_tells n true = inl (refl, refl)
+given_tells n false = inr (refl, refl)
+
+-- two checks in a row: the first that refuses counts
+pub and_row : {A B : Type 0} (x : Result A Refusal) (y : Result B Refusal) → refused (result_and x y) ≡ (refused x or_else refused y)
+and_row (Ok a) y = sym (none_first (refused y))
+and_row (Err r) y = sym (refusal_first r (refused y))
+
+-- the rows of the model: a slot, and one more test after a slot's
+pub slot_row : (h : Heap) (s i : ℕ) → slot_refusal h s i ≡ (open_refusal h s or_else slot_number_refusal i)
+unfolding slot_refusal
+slot_row h s i = refl
+
+pub slots_row : (h : Heap) (s i j : ℕ) → slots_refusal h s i j ≡ (slot_refusal h s i or_else slot_number_refusal j)
 unfolding slots_refusal slot_refusal
-slots_chain h s i j = sym (or_else_assoc (open_refusal h s) (slot_number_refusal i) (slot_number_refusal j))
+slots_row h s i j = sym (or_else_assoc (open_refusal h s) (slot_number_refusal i) (slot_number_refusal j))
 
-pub global_chain : (h : Heap) (s i g : ℕ) → global_refusal h s i g ≡ (slot_refusal h s i or_else global_number_refusal g)
+pub global_row : (h : Heap) (s i g : ℕ) → global_refusal h s i g ≡ (slot_refusal h s i or_else global_number_refusal g)
 unfolding global_refusal slot_refusal
-global_chain h s i g = sym (or_else_assoc (open_refusal h s) (slot_number_refusal i) (global_number_refusal g))
+global_row h s i g = sym (or_else_assoc (open_refusal h s) (slot_number_refusal i) (global_number_refusal g))
 
--- some heap with these roots
-abbrev with : List ℕ → Heap
-with r = lent 0 [] [] [] r
+pub ruleset rows = (given_tells, and_row, slot_row, slots_row, global_row, nat_tests)
 
 -- the number that a function of the heap gives by the roots alone, as the checks promise it
 abbrev pub ByRoots : (Heap → ℕ) → List ℕ → ℕ → Type 0
 ByRoots f r n = (p : ℕ) (a t b : List ℕ) → n ≡ f (lent p a t b r)
 
-pub open_bounds : (r : List ℕ) (s : ℕ) {n : ℕ} → ByRoots (λ h. open_refusal h s) r n → n ≡ 0 → s < stack_count
-open_bounds r s f e = (open_passed (with r) s (sym (f 0 [] [] []) ∙ e)).below
+-- a check's refusal that a `?` hands on: of another check, and of a call, where no buffer changes
+pub handed_on : {A : Type 0} (x : Result A Refusal) (r : Refusal) → IsErrAnd x (λ e. e ≡ r) → refused x ≡ number_of r
+handed_on x r f = let p = err_from_is_err_and x f in rw (p.1, p.2) refl
 
-pub closed_bounds : (r : List ℕ) (s : ℕ) {n : ℕ} → ByRoots (λ h. closed_refusal h s) r n → n ≡ 0 → s < stack_count
-closed_bounds r s f e = let x = simp passes at (sym (f 0 [] [] []) ∙ e) in x.0
-
-pub slot_bounds : (r : List ℕ) (s i : ℕ) {n : ℕ} → ByRoots (λ h. slot_refusal h s i) r n → n ≡ 0 → (s < stack_count) × (i < slot_count)
-slot_bounds r s i f e = let x = slot_passed (with r) s i (sym (f 0 [] [] []) ∙ e) in (x.0.below, x.1)
-
-pub slots_bounds : (r : List ℕ) (s i j : ℕ) {n : ℕ} → ByRoots (λ h. slots_refusal h s i j) r n → n ≡ 0 → (s < stack_count) × (i < slot_count) × (j < slot_count)
-slots_bounds r s i j f e = let x = slots_passed (with r) s i j (sym (f 0 [] [] []) ∙ e) in (x.0.below, x.1, x.2)
-
-pub global_bounds : (r : List ℕ) (s i g : ℕ) {n : ℕ} → ByRoots (λ h. global_refusal h s i g) r n → n ≡ 0 → (s < stack_count) × (i < slot_count) × (g < global_count)
-global_bounds r s i g f e = let x = global_passed (with r) s i g (sym (f 0 [] [] []) ∙ e) in (x.0.below, x.1, x.2)
+pub call_refused : (x : Result Accepted Refusal) (r : Refusal) → IsErrAnd x (λ e. e ≡ r) → (h : Heap) {m : ℕ} → number_of r ≡ m → (done : Answer) (d : Heap) → Meets (outcome m h done d) (answered x) h.arena h.table h.bits h.roots
+call_refused x r f h e done d = let p = err_from_is_err_and x f in rw (p.1, p.2) (refused_by r h done d e)
