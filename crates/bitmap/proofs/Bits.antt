@@ -1,18 +1,17 @@
 -- Laws of the bits of a word: one bit moved up, and where the trailing zeros end.
 use Prim.Native.Nat.{ℕ, zero, suc, ◌*◌, ◌/◌, ◌%◌, ◌^◌, ◌<◌}
-use mathlib.Core.Bool.{Bool, true, false}
+use mathlib.Core.Bool.{false}
 use mathlib.Core.Logic.{◌≢◌}
-use mathlib.Core.Path.{◌≡◌, refl}
+use mathlib.Core.Path.{◌≡◌}
 use native.Mathlib.Nat.{one-mul}
 use native.Mathlib.Omega.{arith}
 use lib.Count.{count_trailing_zeros, under}
-use lib.Dec.{eqb, ltb, lit<}
+use lib.Dec.{eqb, lit<}
 use lib.Pow.{shl_exact}
-use borrow.Author.Tests.{eqb-false, ltb-true, ltb-false}
+use Rattle.std.proofs.lemmas.Nat.Bits.{bit_at-trailing_zeros}
 use mir.Syntax.{w64}
-use mir.Val.{Fits}
 use Rattle.model.specs.Bitmaps.{bit_of}
-use Rattle.model.proofs.Bitmaps.{bit_zero, bit_suc, bit_none, bit_below, word_ext}
+use Rattle.model.proofs.Bitmaps.{bit_zero, bit_suc}
 use Rattle.model.proofs.Bounded.{First}
 
 -- bit k alone, as a word of 64 bits
@@ -36,17 +35,4 @@ trailing_first (suc n) w = go (w % 2) (bit_zero w) (omega arith) (trailing_first
 
 -- .. which is there where the word is not 0
 pub trailing_some : (w : ℕ) → w < 2 ^ 64 → w ≢ 0 → count_trailing_zeros 64 w < 64
-trailing_some w h d = go (ltb (count_trailing_zeros 64 w) 64) refl
-  where
-    go : (b : Bool) → ltb (count_trailing_zeros 64 w) 64 ≡ b → count_trailing_zeros 64 w < 64
-    go true p = ltb-true (count_trailing_zeros 64 w) 64 p
-    go false p = absurd (d (word_ext 64 w 0 h (lit< tt) off))
-      where
-        off : (k : ℕ) → k < 64 → bit_of w k ≡ bit_of 0 k
-        off k l =
-            let e = (trailing_first 64 w).before k (omega (arith, ltb-false (count_trailing_zeros 64 w) 64 p)) in
-            rw (bit_none k) (omega (arith, eqb-false (bit_of w k) 1 e, bit_below w k))
-
--- the number of trailing zeros fits any word
-pub trailing_fits : (w : ℕ) → Fits w64 (count_trailing_zeros 64 w)
-trailing_fits w = omega (arith, (trailing_first 64 w).within)
+trailing_some w h d = (bit_at-trailing_zeros w64 w (omega arith) h).0

@@ -1,9 +1,9 @@
 -- The search for the lowest free element: where elements start, the mask of these bits in a word, and what the search answers.
-use Prim.Native.Nat.{ℕ, suc, ◌+◌, ◌-◌, ◌*◌, ◌/◌, ◌%◌, ◌^◌, ◌<◌, ◌≤◌, min}
+use Prim.Native.Nat.{ℕ, suc, ◌+◌, ◌-◌, ◌*◌, ◌/◌, ◌%◌, ◌^◌, ◌<◌, ◌≤◌}
 use mathlib.Core.Bool.{Bool, true, false, cond, not, ◌&&◌, and-true, and-false}
 use mathlib.Core.List.{List}
 use mathlib.Core.Path.{◌≡◌, refl, sym, ◌∙◌, ap}
-use native.Mathlib.Nat.{div-add-mod', mod-eq_of_lt, zero-mod, add-mod-mod, add-mul-mod_self_right, mul-add-mod_self_right, mul-mod_left, suc-mul, le-div_iff_mul-le, div-lt_iff_lt-mul, min-eq_right}
+use native.Mathlib.Nat.{div-add-mod', mod-eq_of_lt, zero-mod, add-mod-mod, add-mul-mod_self_right, mul-add-mod_self_right, mul-mod_left, suc-mul, le-div_iff_mul-le, zero-add}
 use native.Mathlib.Omega.{arith}
 use lib.Bits.{bit_and}
 use lib.Count.{count_trailing_zeros}
@@ -11,9 +11,11 @@ use lib.Dec.{eqb, leb, ltb}
 use lib.ListN.{get_or}
 use borrow.Author.Tests.{ltb-true, ltb-false, leb-true, leb-false, le-leb, lt-leb, ne_eqb, eqb-true}
 use Rattle.model.specs.Bitmaps.{bit_of, bit_at}
-use Rattle.model.specs.Bounded.{first_below}
-use Rattle.model.proofs.Bounded.{first_is}
+use Rattle.std.specs.Prelude.{None as nothing}
+use Rattle.std.specs.Bool.{then_some}
+use Rattle.bitmap.specs.Search.{found}
 use Rattle.bitmap.specs.Starts.{Starts}
+use Rattle.bitmap.proofs.Found.{found_first, found_nothing}
 use Rattle.model.proofs.Bitmaps.{bit_shifted}
 use Rattle.bitmap.proofs.Scan.{WordOf, None, Passed, word_at, word_not, word_and, scan_word, whole_word, both}
 
@@ -103,37 +105,45 @@ none_next ws {first} {size} {at} r p l o s w i b = go (ltb i ((at + 1) * 64)) re
     go false e = rw (none_between p r l o i (ltb-false i ((at + 1) * 64) e) b, and-false (leb first i)) (and-false (not (bit_at ws i)))
 
 module _ (ws : List ℕ) (first size count : ℕ) (h : 0 < size) where
-  abbrev first_free : ℕ
-  first_free = first_below count (λ k. not (bit_at ws (first + k * size)))
+  -- element k is free
+  abbrev free_element : ℕ → Bool
+  free_element k = not (bit_at ws (first + k * size))
 
-  -- none below b, and b itself or none of the elements
-  answer : (b : ℕ) → first ≤ b → None (free_start ws first size) b → (b < first + count * size → free_start ws first size b ≡ true) → min ((b - first) / size) count ≡ first_free
-  answer b l n f = sym (first_is count (λ k. not (bit_at ws (first + k * size))) (min q count) (record { within = omega arith; before = before; holds = holds }))
-    where
-      q : ℕ
-      q = (b - first) / size
+  start : (k : ℕ) → starting first size (first + k * size) ≡ true
+  start k =
+      let e : first + k * size - first ≡ k * size = omega arith in
+      rw (le-leb first (first + k * size) (omega arith), e, mul-mod_left k size)
 
-      start : (k : ℕ) → starting first size (first + k * size) ≡ true
-      start k =
-          let e : first + k * size - first ≡ k * size = omega arith in
-          rw (le-leb first (first + k * size) (omega arith), e, mul-mod_left k size)
+  -- none is that starts below bit b
+  module _ (b : ℕ) (n : None (free_start ws first size) b) where
+    before : (k : ℕ) → k < (b - first) / size → free_element k ≡ false
+    before k m =
+        let d : suc k * size ≤ b - first = (le-div_iff_mul-le h).0 (omega arith) in
+        sym (and-true (free_element k)) ∙ (rw (start k) at (n (first + k * size) (omega (arith, suc-mul k size))))
 
-      before : (k : ℕ) → k < min q count → not (bit_at ws (first + k * size)) ≡ false
-      before k m =
-          let d : suc k * size ≤ b - first = (le-div_iff_mul-le h).0 (omega arith) in
-          sym (and-true (not (bit_at ws (first + k * size)))) ∙ (rw (start k) at (n (first + k * size) (omega (arith, suc-mul k size))))
+    none_below : count ≤ (b - first) / size → nothing ≡ found 0 count free_element
+    none_below l = found_nothing 0 count free_element (record { within = omega arith; before = λ k m. before k (omega arith); holds = λ m. absurd (omega arith) })
 
-      holds : min q count < count → not (bit_at ws (first + min q count * size)) ≡ true
-      holds m =
-          let c : min q count ≡ q = omega arith in
-          let d : b - first < count * size = (div-lt_iff_lt-mul h).0 (omega arith) in
-          let t = both (not (bit_at ws b)) (starting first size b) (f (omega arith)) in
-          let z = eqb-true ((b - first) % size) 0 (both (leb first b) (eqb ((b - first) % size) 0) t.1).1 in
-          let e : first + q * size ≡ b = omega (arith, div-add-mod' (b - first) size) in
-          rw (c, e) t.0
+    pub none_free : first + count * size ≤ b → nothing ≡ found 0 count free_element
+    none_free l = none_below ((le-div_iff_mul-le h).1 (omega arith))
 
-  pub found_free : {at off z : ℕ} → StartAt first size at off → Passed (free_start ws first size) at z → z < 64 → min ((at * 64 + z - first) / size) count ≡ first_free
-  found_free {at} {off} {z} r p l = answer (at * 64 + z) (omega (arith, r.begun)) p.none (λ _. p.holds l)
+    some_free : first ≤ b → free_start ws first size b ≡ true → then_some (ltb ((b - first) / size) count) ((b - first) / size) ≡ found 0 count free_element
+    some_free l f = go (ltb ((b - first) / size) count) refl
+      where
+        q : ℕ
+        q = (b - first) / size
 
-  pub none_free : (b : ℕ) → None (free_start ws first size) b → first + count * size ≤ b → count ≡ first_free
-  none_free b n l = sym (min-eq_right ((le-div_iff_mul-le h).1 (omega arith))) ∙ answer b (omega arith) n (λ m. absurd (omega arith))
+        free : free_element q ≡ true
+        free =
+            let t = both (not (bit_at ws b)) (starting first size b) f in
+            let z = eqb-true ((b - first) % size) 0 (both (leb first b) (eqb ((b - first) % size) 0) t.1).1 in
+            let e : first + q * size ≡ b = omega (arith, div-add-mod' (b - first) size) in
+            rw e t.0
+
+        go : (c : Bool) → ltb q count ≡ c → then_some c q ≡ found 0 count free_element
+        go true p = rw (zero-add q) at (found_first 0 count free_element q (record { within = omega (arith, ltb-true q count p); before = before; holds = λ m. free }) (ltb-true q count p))
+        go false p = none_below (ltb-false q count p)
+
+  pub found_free : {at off z : ℕ} → StartAt first size at off → Passed (free_start ws first size) at z → z < 64 →
+      (let q = (at * 64 + z - first) / size in then_some (ltb q count) q ≡ found 0 count free_element)
+  found_free {at} {off} {z} r p l = some_free (at * 64 + z) p.none (omega (arith, r.begun)) (p.holds l)

@@ -1,10 +1,9 @@
 -- The search for the lowest bit that passes a test, from a bit on: the masks of its words, and what it answers. `first_set` asks for a set bit and masks its first word alone; the
 -- searches of crate bitmap_search have tests of their own.
-use Prim.Native.Nat.{ℕ, ◌+◌, ◌-◌, ◌*◌, ◌/◌, ◌%◌, ◌^◌, ◌<◌, ◌≤◌, min}
+use Prim.Native.Nat.{ℕ, ◌+◌, ◌-◌, ◌*◌, ◌/◌, ◌%◌, ◌^◌, ◌<◌, ◌≤◌}
 use mathlib.Core.Bool.{Bool, true, false, cond, ◌&&◌, and-true, and-false}
 use mathlib.Core.List.{List}
 use mathlib.Core.Path.{◌≡◌, refl, sym, ◌∙◌}
-use native.Mathlib.Nat.{min-eq_right}
 use native.Mathlib.Omega.{arith}
 use lib.Bits.{bit_and}
 use lib.Count.{count_trailing_zeros}
@@ -12,10 +11,11 @@ use lib.Dec.{leb, ltb}
 use lib.ListN.{get_or}
 use borrow.Author.Tests.{leb-true, leb-false, le-leb, lt-leb, ltb-true, ltb-false}
 use Rattle.model.specs.Bitmaps.{bit_of, bit_at}
-use Rattle.model.specs.Bounded.{first_below}
-use Rattle.model.proofs.Bounded.{first_is}
 use Rattle.model.proofs.Bitmaps.{bit_shifted, bit_all, bit_none}
-use Rattle.bitmap.specs.Search.{Zeros}
+use Rattle.std.specs.Prelude.{Option, None as nothing}
+use Rattle.std.specs.Bool.{then_some}
+use Rattle.bitmap.specs.Search.{Zeros, found}
+use Rattle.bitmap.proofs.Found.{found_first, found_nothing}
 use Rattle.bitmap.proofs.Scan.{WordOf, None, Passed, word_at, word_and, scan_word, both}
 
 -- the mask has the bits from `from` on in word number `at`, which is the word of `from` or one after it
@@ -68,25 +68,29 @@ none_later ws from {at} {next} n z i l = go (ltb i (at * 64)) refl
     go false p = rw (zero_bit ws i (z (i / 64) (omega (arith, ltb-false i (at * 64) p)) (omega arith)))
 
 module _ (t : ℕ → Bool) (from to : ℕ) (h : from ≤ to) where
-  abbrev first_passing : ℕ
-  first_passing = from + first_below (to - from) (λ k. t (from + k))
+  abbrev first_passing : Option ℕ
+  first_passing = found from (to - from) (λ k. t (from + k))
 
-  -- none below b, and b itself or none below `to`
-  answer : (b : ℕ) → from ≤ b → None (pass_from t from) b → (b < to → t b ≡ true) → min b to ≡ first_passing
-  answer b l n f =
-      let e = first_is (to - from) (λ k. t (from + k)) (min b to - from) (record { within = omega arith; before = before; holds = holds }) in
-      omega arith
-    where
-      before : (k : ℕ) → k < min b to - from → t (from + k) ≡ false
-      before k m = sym (and-true (t (from + k))) ∙ (rw (le-leb from (from + k) (omega arith)) at (n (from + k) (omega arith)))
+  -- no bit below b passes
+  module _ (b : ℕ) (n : None (pass_from t from) b) where
+    before : (k : ℕ) → from + k < b → t (from + k) ≡ false
+    before k l = sym (and-true (t (from + k))) ∙ (rw (le-leb from (from + k) (omega arith)) at (n (from + k) l))
 
-      holds : min b to - from < to - from → t (from + (min b to - from)) ≡ true
-      holds m = let e : from + (min b to - from) ≡ b = omega arith in rw e (f (omega arith))
+    pub none_found : to ≤ b → nothing ≡ first_passing
+    none_found l = found_nothing from (to - from) _ (record { within = omega arith; before = λ k m. before k (omega arith); holds = λ m. absurd (omega arith) })
 
-  pub found : {at z : ℕ} → Passed (pass_from t from) at z → z < 64 → min (at * 64 + z) to ≡ first_passing
-  found {at} {z} p l =
+    some_found : from ≤ b → t b ≡ true → then_some (ltb b to) b ≡ first_passing
+    some_found l e = go (ltb b to) refl
+      where
+        there : from + (b - from) ≡ b
+        there = omega arith
+
+        go : (c : Bool) → ltb b to ≡ c → then_some c b ≡ first_passing
+        go true p =
+            rw there at (found_first from (to - from) _ (b - from) (record { within = omega (arith, ltb-true b to p); before = λ k m. before k (omega arith); holds = λ m. rw there e }) (omega (arith, ltb-true b to p)))
+        go false p = none_found (ltb-false b to p)
+
+  pub found_bit : {at z : ℕ} → Passed (pass_from t from) at z → z < 64 → then_some (ltb (at * 64 + z) to) (at * 64 + z) ≡ first_passing
+  found_bit {at} {z} p l =
       let e = both (t (at * 64 + z)) (leb from (at * 64 + z)) (p.holds l) in
-      answer (at * 64 + z) (leb-true from (at * 64 + z) e.1) p.none (λ _. e.0)
-
-  pub none_found : (b : ℕ) → None (pass_from t from) b → to ≤ b → to ≡ first_passing
-  none_found b n l = sym (min-eq_right l) ∙ answer b (omega arith) n (λ m. absurd (omega arith))
+      some_found (at * 64 + z) p.none (leb-true from (at * 64 + z) e.1) e.0

@@ -4,11 +4,10 @@
 // the lowest that is set. Callers add the offset of the part of the bitmaps that they mean.
 #![tactic(auto)]
 
-ghost use Rattle.std.specs.Prelude.{◌≡◌, true, false, not, ◌+◌, ◌-◌, ◌*◌, ◌/◌, ◌%◌, ◌<◌, ◌≤◌, min, length};
-ghost use Rattle.model.specs.Bounded.{first_below};
+ghost use Rattle.std.specs.Prelude.{◌≡◌, true, false, not, MatchOption, ◌+◌, ◌-◌, ◌*◌, ◌/◌, ◌%◌, ◌<◌, ◌≤◌, length};
 ghost use Rattle.model.specs.Memory.{word_bits};
 ghost use Rattle.model.specs.Bitmaps.{bit_at, with_bit};
-ghost use Rattle.bitmap.specs.Search.{Zeros, FirstNonzero};
+ghost use Rattle.bitmap.specs.Search.{Zeros, FirstNonzero, found};
 ghost use Rattle.bitmap.specs.Starts.{ElementRow};
 
 use units::{ALL_BITS, WORD_BITS};
@@ -27,7 +26,7 @@ pub fn set(ws: &mut [u64], i: usize)
     ensures { ws.new ≡ with_bit i true ws.old }
 {
     let at = i / WORD_BITS;
-    ws[at] = ws[at] | (1u64 << (i % WORD_BITS));
+    ws[at] |= 1u64 << (i % WORD_BITS);
 }
 
 // Bit `i` turned off.
@@ -36,14 +35,7 @@ pub fn clear(ws: &mut [u64], i: usize)
     ensures { ws.new ≡ with_bit i false ws.old }
 {
     let at = i / WORD_BITS;
-    ws[at] = ws[at] & !(1u64 << (i % WORD_BITS));
-}
-
-// The lower of two numbers.
-fn lower(a: usize, b: usize) -> usize
-    ensures { result ≡ min a b }
-{
-    if a < b { a } else { b }
+    ws[at] &= !(1u64 << (i % WORD_BITS));
 }
 
 // How many words hold the bits below `end`. The sum of `end` and a word's bits may exceed 64 bits, so
@@ -51,11 +43,7 @@ fn lower(a: usize, b: usize) -> usize
 pub fn words_below(end: usize) -> usize
     ensures { result ≡ (end + (word_bits - 1)) / word_bits }
 {
-    if end % WORD_BITS == 0 {
-        end / WORD_BITS
-    } else {
-        end / WORD_BITS + 1
-    }
+    end.div_ceil(WORD_BITS)
 }
 
 // A word from word `from` on, at most `end`, before which all words from `from` on are 0. They are
@@ -65,6 +53,7 @@ fn past_zeros(ws: &[u64], from: usize, end: usize) -> usize
     ensures { (from ≤ result) × (result ≤ end) × Zeros ws.now from result }
 {
     let mut at = from;
+    // Not a for over chunks: the number of the word would be counted beside them.
     while 4 <= end - at {
         let some = ws[at] | ws[at + 1] | ws[at + 2] | ws[at + 3];
         if some != 0 {
@@ -75,42 +64,38 @@ fn past_zeros(ws: &[u64], from: usize, end: usize) -> usize
     at
 }
 
-// The first word from word `from` on and below word `end` that has a bit, or `end`.
-fn first_nonzero(ws: &[u64], from: usize, end: usize) -> usize
+// The first word from word `from` on and below word `end` that has a bit.
+fn first_nonzero(ws: &[u64], from: usize, end: usize) -> Option<usize>
     requires { (from ≤ end) × (end ≤ length ws.now) }
-    ensures { FirstNonzero ws.now from end result }
+    ensures { MatchOption result (Zeros ws.now from end) (FirstNonzero ws.now from end) }
 {
-    let mut at = past_zeros(ws, from, end);
-    while at < end {
+    for at in past_zeros(ws, from, end)..end {
         if ws[at] != 0 {
-            return at;
+            return Some(at);
         }
-        at += 1;
     }
-    end
+    None
 }
 
-// The lowest set bit at or after `from` and below `to`, or `to`. Only the first word is masked; of
-// those after it the ones that are 0 are passed over.
-pub fn first_set(ws: &[u64], from: usize, to: usize) -> usize
+// The lowest set bit at or after `from` and below `to`. Only the first word is masked; of those after
+// it the ones that are 0 are passed over.
+pub fn first_set(ws: &[u64], from: usize, to: usize) -> Option<usize>
     requires { (from ≤ to) × (to ≤ word_bits * length ws.now) }
-    ensures { result ≡ from + first_below (to - from) (λ k. bit_at ws.now (from + k)) }
+    ensures { result ≡ found from (to - from) (λ k. bit_at ws.now (from + k)) }
 {
     let end = words_below(to);
     let first = from / WORD_BITS;
     if end <= first {
-        return to;
+        return None;
     }
-    let head = u64::trailing_zeros(ws[first] & (ALL_BITS << (from % WORD_BITS))) as usize;
+    let head = (ws[first] & (ALL_BITS << (from % WORD_BITS))).trailing_zeros() as usize;
     if head < WORD_BITS {
-        return lower(first * WORD_BITS + head, to);
+        let bit = first * WORD_BITS + head;
+        return (bit < to).then_some(bit);
     }
-    let at = first_nonzero(ws, first + 1, end);
-    if end <= at {
-        return to;
-    }
-    let found = u64::trailing_zeros(ws[at]) as usize;
-    lower(at * WORD_BITS + found, to)
+    let at = first_nonzero(ws, first + 1, end)?;
+    let bit = at * WORD_BITS + ws[at].trailing_zeros() as usize;
+    (bit < to).then_some(bit)
 }
 
 // Where the first element after a word starts, counted from the word's end, if the first one from the
@@ -127,26 +112,28 @@ pub fn next_start(size: usize, rest: usize, off: usize) -> usize
     }
 }
 
-// The lowest free one of `count` elements, or `count`. Element k starts at bit `first` + k * `size`
-// and is free if that bit is clear; its other bits do not count. `starts` has the bits at which
-// elements start in a word whose lowest bit starts one. Words in which none starts are passed over.
-pub fn first_free(ws: &[u64], first: usize, size: usize, count: usize, starts: u64) -> usize
+// The lowest free one of `count` elements. Element k starts at bit `first` + k * `size` and is free if
+// that bit is clear; its other bits do not count. `starts` has the bits at which elements start in a
+// word whose lowest bit starts one.
+pub fn first_free(ws: &[u64], first: usize, size: usize, count: usize, starts: u64) -> Option<usize>
     requires { ElementRow ws.now first size count starts }
-    ensures { result ≡ first_below count (λ k. not (bit_at ws.now (first + k * size))) }
+    ensures { result ≡ found 0 count (λ k. not (bit_at ws.now (first + k * size))) }
 {
     let end = words_below(first + count * size);
     let rest = WORD_BITS % size;
     let mut at = first / WORD_BITS;
     // the lowest start in the word
     let mut off = 0;
+    // Not a for: a turn passes over the words in which no element starts.
     while at < end {
-        let free = u64::trailing_zeros(!ws[at] & (starts << off)) as usize;
+        let free = (!ws[at] & (starts << off)).trailing_zeros() as usize;
         if free < WORD_BITS {
-            return lower((at * WORD_BITS + free - first) / size, count);
+            let k = (at * WORD_BITS + free - first) / size;
+            return (k < count).then_some(k);
         }
         let next = next_start(size, rest, off);
         at += 1 + next / WORD_BITS;
         off = next % WORD_BITS;
     }
-    count
+    None
 }

@@ -6,9 +6,6 @@ use native.Mathlib.Omega.{arith}
 use Rattle.bitmap.proofs.FirstFree.{same_offset}
 use Rattle.bitmap.proofs.next_start.Goals as goal
 
-pub overflow_sub-result : goal.overflow_sub-result
-overflow_sub-result c = omega (arith, mod-lt 64 {m = c.args.size} (omega arith))
-
 pub returns-then-off-rest : goal.returns-then-off-rest
 returns-then-off-rest c =
     let a = c.args in
