@@ -4,7 +4,7 @@
 // from it for the gate's time: each wrong program proves its whole crate again.
 #![tactic(auto)]
 
-ghost use Rattle.std.specs.Prelude.{◌≡◌, false};
+ghost use Rattle.std.specs.Prelude.{◌≡◌};
 ghost use Rattle.model.specs.Spans.{put_page, put_pages, span_page, free_page};
 ghost use Rattle.model.specs.Cycle.{unswept_page};
 ghost use Rattle.model.specs.Lent.{PageTable, HasEntry};
@@ -16,6 +16,7 @@ use page_table::{COUNT, KIND, Span};
 use units::{ENTRY_NUMBERS, Page, UNSWEPT_FLAG};
 
 // Page g's entry.
+#[tactic(auto, unfolding(model::specs::Spans::put_page))]
 fn put_entry(table: &mut [u32], g: Page, owner: u32, count: u32, kind: u32)
     requires { HasEntry table.old g.0 }
     ensures { table.new ≡
@@ -28,39 +29,35 @@ fn put_entry(table: &mut [u32], g: Page, owner: u32, count: u32, kind: u32)
 }
 
 // The entries of a span of n pages from page s on. Only its first page has the count and the kind.
+#[tactic(auto, using(model::proofs::Bounded::run_none, model::proofs::Bounded::run_step))]
 pub fn write_span(table: &mut [u32], s: Page, n: usize, kind: u32)
     requires { NewEntries table.old s.0 n }
     ensures { table.new ≡ put_pages s.0 n (span_page s.0 n kind) table.old }
 {
+    if n == 0 {
+        return;
+    }
     let first = s.0;
     let owner = (first + 1) as u32;
-    let mut next_count = n as u32;
-    let mut next_kind = kind;
-    let mut k = 0;
-    while k < n {
-        let g = first + k;
-        k += 1;
-        put_entry(table, Page(g), owner, next_count, next_kind);
-        next_count = 0;
-        next_kind = 0;
+    put_entry(table, s, owner, n as u32, kind);
+    for k in 1..n {
+        put_entry(table, Page(first + k), owner, 0, 0);
     }
 }
 
 // The n pages from page s on become free.
+#[tactic(auto, using(model::proofs::Bounded::run_none, model::proofs::Bounded::run_step))]
 pub fn free_span(table: &mut [u32], s: Page, n: usize)
     requires { HasEntries table.old s.0 n }
     ensures { table.new ≡ put_pages s.0 n (λ g. free_page) table.old }
 {
-    let first = s.0;
-    let mut freed = 0;
-    while freed < n {
-        let g = first + freed;
-        freed += 1;
-        put_entry(table, Page(g), 0, 0, 0);
+    for k in 0..n {
+        put_entry(table, Page(s.0 + k), 0, 0, 0);
     }
 }
 
 // The kind of the span that starts at page s, with or without the unswept flag.
+#[tactic(auto, using(crate::proofs::Entries::put_kind))]
 fn set_kind(table: &mut [u32], s: Page, kind: u32)
     requires { SpanEntry table.old s.0 }
     ensures { table.new ≡ with_kind s.0 kind table.old }
@@ -78,73 +75,42 @@ pub fn make_swept(table: &mut [u32], span: Span)
 }
 
 // Every span becomes unswept.
+#[tactic(auto, using(model::proofs::Bounded::run_none))]
 pub fn make_all_unswept(p: usize, table: &mut [u32])
     requires { Flaggable p table.old }
     ensures { table.new ≡ put_pages 0 p (unswept_page table.old) table.old }
 {
-    let mut page = 0;
-    while page < p {
-        let at = page;
-        page += 1;
-        if page_table::starts_span(table, Page(at)) {
-            table[ENTRY_NUMBERS * at + KIND] += UNSWEPT_FLAG;
+    for page in 0..p {
+        if page_table::starts_span(table, Page(page)) {
+            table[ENTRY_NUMBERS * page + KIND] += UNSWEPT_FLAG;
         }
-    }
-}
-
-// An unswept span: whether there is one, and the span as it was read.
-#[derive(Clone, Copy)]
-pub struct Unswept {
-    pub found: bool,
-    pub span: Span,
-}
-
-// No span.
-fn nothing() -> Unswept
-    ensures { result.found ≡ false }
-{
-    Unswept {
-        found: false,
-        span: Span {
-            start: Page(0),
-            pages: 0,
-            flagged: 0,
-            kind: 0,
-            class: 0,
-            scan: false,
-            unswept: false,
-        },
     }
 }
 
 // The unswept span that starts at page s, if one does.
-pub fn unswept_at(table: &[u32], s: Page) -> Unswept
+pub fn unswept_at(table: &[u32], s: Page) -> Option<Span>
     requires { HasEntry table.now s.0 }
     ensures { UnsweptAt table.now s.0 result }
 {
     if !page_table::starts_span(table, s) {
-        return nothing();
+        return None;
     }
     let span = page_table::span_at(table, s);
-    Unswept {
-        found: span.unswept,
-        span: span,
+    if span.unswept {
+        return Some(span);
     }
+    None
 }
 
 // The first unswept span, if there is one.
-pub fn first_unswept(p: usize, table: &[u32]) -> Unswept
+pub fn first_unswept(p: usize, table: &[u32]) -> Option<Span>
     requires { PageTable p table.now }
     ensures { FirstUnswept p table.now result }
 {
-    let mut s = 0;
-    while s < p {
-        let at = s;
-        s += 1;
-        let span = unswept_at(table, Page(at));
-        if span.found {
-            return span;
+    for s in 0..p {
+        if let Some(span) = unswept_at(table, Page(s)) {
+            return Some(span);
         }
     }
-    nothing()
+    None
 }

@@ -10,5 +10,5 @@ run_length-pages-requires c = (c.requires.0, omega (arith, start_within c.args.t
 
 pub returns-then-n-pages : goal.returns-then-n-pages
 returns-then-n-pages c =
-    let counted : let a = c.args in c.run_length-pages.result ≡ run_length a.p a.table.now c.run_start-start.result.0 = c.run_length-pages.ensures in
-    rw (← c.run_start-start.ensures, ← counted, le-leb c.args.n c.run_length-pages.result c.if-n-pages.true) (refl, omega (arith, start_within c.args.table.now c.args.s.0))
+    let counted : let a = c.args in c.run_length-pages.result ≡ run_length a.p a.table.now c.run_start-start.result.0 = omega arith in
+    rw (← c.run_start-start.ensures, ← counted, le-leb c.args.n c.run_length-pages.result (omega arith)) (refl, omega (arith, start_within c.args.table.now c.args.s.0))
