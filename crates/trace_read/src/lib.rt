@@ -1,182 +1,163 @@
 // A line of a trace, read: one letter, then numbers, one space before each. `read` takes the bytes
-// of a line without its line feed and tells the call that it asks for, or that it does not read.
+// of a line without its line feed and tells what it asks for, or that it does not read.
 #![tactic(auto)]
 
-ghost use Rattle.std.specs.Prelude.{◌≡◌, ◌≤◌, ◌<◌, length, drop};
-ghost use Rattle.trace_read.specs.Lines.{digit_of, digits, numbers_of, line_of, when, read_line, Reads};
+ghost use Rattle.std.specs.Prelude.{◌≡◌, ◌+◌, ◌*◌, ◌^◌, ◌≤◌, ◌<◌, [], ◌∷◌, ◌++◌, length, take};
+ghost use Rattle.std.specs.Prelude.{SomeIff, IfSome, MatchOption};
+ghost use Rattle.trace_read.specs.Lines.{digit_of, digits, numbers_of, unread, Reads};
+ghost use Rattle.trace_read.specs.Lines.{most_numbers, line_of, read_line};
 
 use model::Call;
 
-// What a line reads as: `H` with its number of pages, or a call on the heap.
+// What a line asks for: `H` a heap of so many pages, any other letter a call on it.
 #[derive(Clone, Copy)]
 pub enum Line {
-    Bad,
     Setup(u64),
     Call(Call),
-}
-
-// The numbers of a line: how many there are, and the numbers, 0 past the last. Where the line does
-// not read, or has more numbers than any letter takes, the count is TOO_MANY.
-#[derive(Clone, Copy)]
-pub struct Numbers(pub u64, pub u64, pub u64, pub u64, pub u64);
-
-// One number of a line: what it comes to, and the place after its last digit.
-#[derive(Clone, Copy)]
-pub enum Number {
-    Bad,
-    Read(u64, usize),
 }
 
 // A line has at most so many bytes before its line feed.
 pub const LONGEST: usize = 80;
 
-const SPACE: u8 = 32;
+// No letter takes more numbers.
+const MOST_NUMBERS: usize = 4;
 
-const TOO_MANY: u64 = 5;
-// What `digit` gives for a byte that is no digit.
-const NO_DIGIT: u64 = 10;
+// The numbers of a line: the first `count` of these.
+#[derive(Clone, Copy)]
+struct Numbers {
+    pub values: [u64; MOST_NUMBERS],
+    pub count: usize,
+    ghost few: { count ≤ most_numbers },
+}
 
-fn digit(b: u8) -> u64
+impl Numbers {
+    fn as_slice(&self) -> &[u64]
+        ensures { result.now ≡ take self.now.count self.now.values }
+    {
+        &self.values[..self.count]
+    }
+
+    // One number more, if a letter takes as many.
+    fn push(&mut self, v: u64) -> Option<()>
+        ensures { MatchOption result (length (take self.old.count self.old.values) ≡ most_numbers)
+            (λ _. take self.new.count self.new.values ≡ take self.old.count self.old.values ++ (v ∷ [])) }
+    {
+        if self.count < MOST_NUMBERS {
+            self.values[self.count] = v;
+            self.count += 1;
+            Some(())
+        } else {
+            None
+        }
+    }
+}
+
+fn digit(b: u8) -> Option<u64>
     ensures { result ≡ digit_of b }
 {
     match b {
-        48..=57 => wide(b - 48),
-        _ => NO_DIGIT,
+        b'0'..=b'9' => Some(u64::from(b - b'0')),
+        _ => None,
     }
 }
 
-fn wide(b: u8) -> u64
-    ensures { result ≡ b }
+// The number v with the digit d behind it, if that fits.
+fn with_digit(v: u64, d: u64) -> Option<u64>
+    ensures { SomeIff result (v * 10 + d < 2 ^ 64) (v * 10 + d) }
 {
-    b as u64
+    v.checked_mul(10)?.checked_add(d)
 }
 
-// The digits from place `at` on, after the ones that come to `first`.
-#[tactic(auto, using(crate::proofs::Digits::leads))]
-fn digits_from(line: &[u8], at: usize, first: u64) -> Number
-    requires { at ≤ length line.now }
-    ensures { Reads (digits first (drop at line.now)) line.now result }
+// The digits after the ones that come to `first`: the number, and the bytes after it.
+#[tactic(auto, using(crate::proofs::Digits::digit_by_digit))]
+fn digits_from(first: u64, bytes: &[u8]) -> Option<(u64, &[u8])>
+    ensures reads { Reads (digits first bytes.now) result }
+    ensures shorter { IfSome result (λ p. length p.1.now ≤ length bytes.now) }
 {
     let mut v = first;
-    let mut i = at;
-    while i < line.len() {
-        let d = digit(line[i]);
-        if d == NO_DIGIT {
-            return Number::Read(v, i);
-        }
-        i += 1;
+    for (i, b) in bytes.iter().enumerate() {
+        let Some(d) = digit(*b) else {
+            return Some((v, &bytes[i..]));
+        };
         if v == 0 {
-            return Number::Bad;
+            return None;
         }
-        if (u64::MAX - d) / 10 < v {
-            return Number::Bad;
-        }
-        v = v * 10 + d;
+        v = with_digit(v, d)?;
     }
-    Number::Read(v, i)
+    Some((v, &[]))
 }
 
-// The number at place `at`, with the space before it.
-fn number_at(line: &[u8], at: usize) -> Number
-    requires { at < length line.now }
-    ensures { Reads (numbers_of (drop at line.now)) line.now result }
+// The number at the start of the bytes, behind its space, and the bytes after it.
+#[tactic(auto, using(crate::proofs::Digits::begins))]
+fn number_from(bytes: &[u8]) -> Option<(u64, &[u8])>
+    requires { 0 < length bytes.now }
+    ensures reads { Reads (numbers_of bytes.now) result }
+    ensures shorter { IfSome result (λ p. length p.1.now < length bytes.now) }
 {
-    if line[at] != SPACE {
-        return Number::Bad;
-    }
-    let i = at + 1;
-    if i == line.len() {
-        return Number::Bad;
-    }
-    let d = digit(line[i]);
-    if d == NO_DIGIT {
-        return Number::Bad;
-    }
-    digits_from(line, i + 1, d)
+    let [b' ', b, rest @ ..] = bytes else {
+        return None;
+    };
+    digits_from(digit(*b)?, rest)
 }
 
 // The numbers after the letter.
-fn numbers_of(line: &[u8]) -> Numbers
-    requires { 1 ≤ length line.now }
-    ensures { result ≡ numbers_of (drop 1 line.now) }
+fn numbers_of(bytes: &[u8]) -> Option<Numbers>
+    ensures { MatchOption result (numbers_of bytes.now ≡ unread)
+        (λ n. numbers_of bytes.now ≡ Some (take n.count n.values)) }
 {
-    let n = line.len();
-    if n == 1 {
-        return Numbers(0, 0, 0, 0, 0);
-    }
-    let Number::Read(a, i) = number_at(line, 1) else {
-        return Numbers(TOO_MANY, 0, 0, 0, 0);
+    let mut numbers = Numbers {
+        values: [0; MOST_NUMBERS],
+        count: 0,
     };
-    if i == n {
-        return Numbers(1, a, 0, 0, 0);
+    let mut rest = bytes;
+    // Not a for: a turn passes a whole number.
+    while !rest.is_empty() {
+        let (v, after) = number_from(rest)?;
+        numbers.push(v)?;
+        rest = after;
     }
-    let Number::Read(b, j) = number_at(line, i) else {
-        return Numbers(TOO_MANY, 0, 0, 0, 0);
-    };
-    if j == n {
-        return Numbers(2, a, b, 0, 0);
-    }
-    let Number::Read(c, k) = number_at(line, j) else {
-        return Numbers(TOO_MANY, 0, 0, 0, 0);
-    };
-    if k == n {
-        return Numbers(3, a, b, c, 0);
-    }
-    let Number::Read(d, l) = number_at(line, k) else {
-        return Numbers(TOO_MANY, 0, 0, 0, 0);
-    };
-    if l == n {
-        return Numbers(4, a, b, c, d);
-    }
-    Numbers(TOO_MANY, 0, 0, 0, 0)
+    Some(numbers)
 }
 
-// The line, where it has as many numbers as its letter takes.
-fn line_when(ok: bool, line: Line) -> Line
-    ensures { result ≡ when ok line }
+// What the letter asks for with these numbers, where it takes as many.
+#[tactic(auto, unfolding(crate::specs::Lines::line_of))]
+fn line_of(letter: u8, numbers: &[u64]) -> Option<Line>
+    ensures { result ≡ line_of letter numbers.now }
 {
-    if ok { line } else { Line::Bad }
-}
-
-// The letter b with the numbers after it.
-fn line_of(b: u8, n: Numbers) -> Line
-    ensures { result ≡ line_of b n }
-{
-    let count = n.0;
-    match b {
-        b'H' => line_when(count == 1, Line::Setup(n.1)),
-        b'O' => line_when(count == 1, Line::Call(Call::Open(n.1))),
-        b'C' => line_when(count == 1, Line::Call(Call::Close(n.1))),
-        b'A' => line_when(count == 4, Line::Call(Call::Allocate(n.1, n.2, n.3, n.4))),
-        b'M' => line_when(count == 3, Line::Call(Call::Copy(n.1, n.2, n.3))),
-        b'Z' => line_when(count == 2, Line::Call(Call::Clear(n.1, n.2))),
-        b'L' => line_when(count == 4, Line::Call(Call::Load(n.1, n.2, n.3, n.4))),
-        b'S' => line_when(count == 4, Line::Call(Call::Store(n.1, n.2, n.3, n.4))),
-        b'W' => line_when(count == 4, Line::Call(Call::Put(n.1, n.2, n.3, n.4))),
-        b'R' => line_when(count == 3, Line::Call(Call::Get(n.1, n.2, n.3))),
-        b'G' => line_when(count == 3, Line::Call(Call::LoadGlobal(n.1, n.2, n.3))),
-        b'P' => line_when(count == 3, Line::Call(Call::StoreGlobal(n.1, n.2, n.3))),
-        b'T' => line_when(count == 0, Line::Call(Call::Start)),
-        b'K' => line_when(count == 1, Line::Call(Call::ScanStack(n.1))),
-        b'Q' => line_when(count == 0, Line::Call(Call::ScanGlobals)),
-        b'N' => line_when(count == 0, Line::Call(Call::MarkStep)),
-        b'F' => line_when(count == 0, Line::Call(Call::Finish)),
-        b'E' => line_when(count == 0, Line::Call(Call::SweepStep)),
-        _ => Line::Bad,
-    }
+    let call = match (letter, numbers) {
+        (b'H', [p]) => return Some(Line::Setup(*p)),
+        (b'O', [s]) => Call::Open(*s),
+        (b'C', [s]) => Call::Close(*s),
+        (b'A', [s, i, size, p]) => Call::Allocate(*s, *i, *size, *p),
+        (b'M', [s, i, j]) => Call::Copy(*s, *i, *j),
+        (b'Z', [s, i]) => Call::Clear(*s, *i),
+        (b'L', [s, i, j, f]) => Call::Load(*s, *i, *j, *f),
+        (b'S', [s, j, f, k]) => Call::Store(*s, *j, *f, *k),
+        (b'W', [s, j, f, v]) => Call::Put(*s, *j, *f, *v),
+        (b'R', [s, j, f]) => Call::Get(*s, *j, *f),
+        (b'G', [s, i, g]) => Call::LoadGlobal(*s, *i, *g),
+        (b'P', [s, g, i]) => Call::StoreGlobal(*s, *g, *i),
+        (b'T', []) => Call::Start,
+        (b'K', [s]) => Call::ScanStack(*s),
+        (b'Q', []) => Call::ScanGlobals,
+        (b'N', []) => Call::MarkStep,
+        (b'F', []) => Call::Finish,
+        (b'E', []) => Call::SweepStep,
+        _ => return None,
+    };
+    Some(Line::Call(call))
 }
 
 // What the bytes of a line read as.
-pub fn read(line: &[u8]) -> Line
+pub fn read(line: &[u8]) -> Option<Line>
     ensures { result ≡ read_line line.now }
 {
-    let n = line.len();
-    if n == 0 {
-        return Line::Bad;
+    if LONGEST < line.len() {
+        return None;
     }
-    if LONGEST < n {
-        return Line::Bad;
-    }
-    let b = line[0];
-    line_of(b, numbers_of(line))
+    let [letter, rest @ ..] = line else {
+        return None;
+    };
+    let numbers = numbers_of(rest)?;
+    line_of(*letter, numbers.as_slice())
 }
