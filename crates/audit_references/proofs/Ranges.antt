@@ -1,13 +1,16 @@
--- Ranges of roots: the slots of a closed stack, two ranges joined, and one more root.
-use Prim.Native.Nat.{ℕ, ◌+◌, ◌-◌, ◌*◌, ◌<◌}
+-- Ranges of roots: the slots of a closed stack, two ranges joined, and a part of the roots as a range.
+use Prim.Native.Nat.{ℕ, ◌+◌, ◌-◌, ◌*◌, ◌<◌, ◌≤◌}
 use mathlib.Core.Bool.{Bool, true, false}
 use mathlib.Core.List.{List}
-use mathlib.Core.Logic.{inl}
-use mathlib.Core.Path.{◌≡◌, refl}
+use mathlib.Core.Logic.{inl, ◌↔◌}
+use mathlib.Core.Path.{◌≡◌, refl, ◌∙◌}
 use native.Mathlib.Omega.{arith}
-use lib.Dec.{ltb}
-use lib.ListN.{get_or}
+use lib.Dec.{ltb, T}
+use Rattle.std.specs.Bool.{MatchBool}
+use Rattle.std.specs.List.{AllWithin, HoldsAt}
+use lib.ListN.{get_or, take, drop, length}
 use borrow.Author.Tests.{ltb-true, ltb-false}
+use Rattle.std.proofs.lemmas.List.{get_or-take, get_or-drop, length-take, length-drop}
 use Rattle.model.specs.Memory.{stack_count, slot_count, first_state, closed}
 use Rattle.model.specs.Facts.{Reference, States}
 use Rattle.audit_references.specs.References.{RootRange}
@@ -20,10 +23,27 @@ module _ (p : ℕ) (t b r : List ℕ) where
       go true e = A i l (ltb-true i k e)
       go false e = B i (ltb-false i k e) m
 
-  pub range_more : (from k : ℕ) → RootRange p t b r from k → Reference p t b (get_or r k 0) → RootRange p t b r from (k + 1)
-  range_more from k A x = range_join from k (k + 1) A (λ i l m. let z : k ≡ i = omega arith in rw z at x)
-
   pub closed_range : States r → (s : ℕ) → s < stack_count → get_or r (first_state + s) 0 ≡ closed → RootRange p t b r (slot_count * s) (slot_count * s + slot_count)
   closed_range S s l e i h m =
       let z : slot_count * s + (i - slot_count * s) ≡ i = omega arith in
       inl (rw z at (S.closed s (i - slot_count * s) l (omega arith) e))
+
+  pub range_part : (from to : ℕ) → from ≤ to → to ≤ length r →
+      RootRange p t b (take (to - from) (drop from r)) 0 (length (take (to - from) (drop from r))) ↔ RootRange p t b r from to
+  range_part from to l m = (λ A i h k. whole A i h k, λ B i _ k. rw (word i (omega (arith, long))) (B (from + i) (omega arith) (omega (arith, long))))
+    where
+      long : length (take (to - from) (drop from r)) ≡ to - from
+      long = omega (arith, length-take (to - from) (drop from r), length-drop from r)
+
+      word : (i : ℕ) → i < to - from → get_or (take (to - from) (drop from r)) i 0 ≡ get_or r (from + i) 0
+      word i k = get_or-take (to - from) (drop from r) i 0 k ∙ get_or-drop from r i 0
+
+      whole : RootRange p t b (take (to - from) (drop from r)) 0 (length (take (to - from) (drop from r))) → RootRange p t b r from to
+      whole A i h k =
+          let z : from + (i - from) ≡ i = omega arith in
+          rw z at (rw (word (i - from) (omega arith)) at (A (i - from) (omega arith) (omega (arith, long))))
+
+  -- what a test of every word tells
+  pub all_references : (a : Bool) → MatchBool a (AllWithin (Reference p t b) r 0 (length r)) ((k : ℕ) × (k < length r) × HoldsAt (λ v. Reference p t b v → ⊥) r k) → T a ↔ RootRange p t b r 0 (length r)
+  all_references true h = (λ _ i l m. h i 0 l m, λ _. tt)
+  all_references false h = (λ x. absurd x, λ A. h.2 0 (A h.0 (omega arith) h.1))

@@ -6,7 +6,7 @@
 // wrong program proves its whole crate again.
 #![tactic(auto)]
 
-ghost use Rattle.std.specs.Prelude.{◌≡◌, ◌↔◌, ◌*◌, ◌<◌, ◌≤◌, T};
+ghost use Rattle.std.specs.Prelude.{◌≡◌, ◌↔◌, ◌*◌, ◌<◌, ◌≤◌, T, length};
 ghost use Rattle.model.specs.Memory.{max_pages, page_words, root_words, first_global};
 ghost use Rattle.model.specs.Facts.{Reference, States, kept_at};
 ghost use Rattle.model.specs.Lent.{Mapped, RootReferences, Told};
@@ -24,9 +24,10 @@ fn kept_from(p: usize, unswept: bool) -> usize
     ensures { result ≡ kept_from p unswept }
 {
     if unswept {
-        return MARKED_PART * (PAGE_WORDS * p);
+        MARKED_PART * (PAGE_WORDS * p)
+    } else {
+        0
     }
-    0
 }
 
 // Word w of the arena starts a kept element. `swept` says that no span is unswept.
@@ -44,46 +45,21 @@ fn kept(p: usize, table: &[u32], bits: &[u64], swept: bool, w: Word) -> bool
 }
 
 // The value is nil or the address of a kept element.
+#[tactic(auto, using(crate::proofs::References::kept_inside))]
 pub fn is_reference(p: usize, table: &[u32], bits: &[u64], swept: bool, v: Address) -> bool
     requires { Mapped p table.now bits.now × Told swept table.now }
     ensures { T result ↔ Reference p table.now bits.now v.0 }
 {
-    if v.is_nil() {
-        return true;
-    }
-    if !v.names_word() {
-        return false;
-    }
     let w = v.word();
-    let at = w.0;
-    if PAGE_WORDS * p <= at {
-        return false;
-    }
-    kept(p, table, bits, swept, w)
+    v.is_nil() || v.names_word() && w.0 < PAGE_WORDS * p && kept(p, table, bits, swept, w)
 }
 
-// The roots from word `from` on and before word `to` are references.
-fn range_ok(
-    p: usize,
-    table: &[u32],
-    bits: &[u64],
-    roots: &[u64],
-    swept: bool,
-    from: usize,
-    to: usize,
-) -> bool
-    requires { ReadableRoots swept p table.now bits.now roots.now × (to ≤ root_words) }
-    ensures { T result ↔ at_entry (RootRange p) (shared table) (shared bits) (shared roots) from to }
+// These words of the roots are references.
+fn range_ok(p: usize, table: &[u32], bits: &[u64], words: &[u64], swept: bool) -> bool
+    requires { Mapped p table.now bits.now × Told swept table.now }
+    ensures { T result ↔ at_entry (RootRange p) (shared table) (shared bits) (shared words) 0 (length words.now) }
 {
-    let mut i = from;
-    while i < to {
-        let value = roots[i];
-        i += 1;
-        if !is_reference(p, table, bits, swept, Address(value)) {
-            return false;
-        }
-    }
-    true
+    words.iter().all(|value| is_reference(p, table, bits, swept, Address(*value)))
 }
 
 // So are the slots of every stack. Those of a closed one are nil.
@@ -91,15 +67,11 @@ fn slots_ok(p: usize, table: &[u32], bits: &[u64], roots: &[u64], swept: bool) -
     requires { ReadableRoots swept p table.now bits.now roots.now × States roots.now }
     ensures { T result ↔ at_entry (RootRange p) (shared table) (shared bits) (shared roots) 0 first_global }
 {
-    let mut s = 0;
-    while s < STACKS {
+    for s in 0..STACKS {
         let first = SLOTS * s;
         let state = roots[FIRST_STATE + s];
-        s += 1;
-        if state != CLOSED {
-            if !range_ok(p, table, bits, roots, swept, first, first + SLOTS) {
-                return false;
-            }
+        if state != CLOSED && !range_ok(p, table, bits, &roots[first..first + SLOTS], swept) {
+            return false;
         }
     }
     true
@@ -110,8 +82,6 @@ pub fn roots_ok(p: usize, table: &[u32], bits: &[u64], roots: &[u64], swept: boo
     requires { ReadableRoots swept p table.now bits.now roots.now × States roots.now }
     ensures { T result ↔ at_entry (RootReferences p) (shared table) (shared bits) (shared roots) }
 {
-    if !slots_ok(p, table, bits, roots, swept) {
-        return false;
-    }
-    range_ok(p, table, bits, roots, swept, FIRST_GLOBAL, FIRST_STATE)
+    slots_ok(p, table, bits, roots, swept)
+        && range_ok(p, table, bits, &roots[FIRST_GLOBAL..FIRST_STATE], swept)
 }
