@@ -8,42 +8,44 @@ use native.Mathlib.Numerals.{add-one}
 use native.Mathlib.Omega.{arith}
 use lib.Dec.{eqb}
 use lib.ListN.{get_or}
-use borrow.Author.Tests.{eq-eqb, ne_eqb, lt-ltb}
+use borrow.Author.Tests.{eqb-false, eq-eqb, ne_eqb, lt-ltb}
 use Rattle.model.specs.Memory.{word_of, lent, phase_at, mark, page_words, nil, marked_part, gray_part}
 use Rattle.model.specs.Bitmaps.{bit_at, with_bit, bit_in, put_bit, marked}
 use Rattle.model.specs.Spans.{is_scan, span_of}
 use Rattle.model.specs.Shading.{is_white, shade, shade_all, shade_count, barrier}
 use Rattle.model.proofs.Bounded.{count_none, count_step}
 use Rattle.model.proofs.Shading.{all_zero_lem, all_suc}
-use Rattle.shading.specs.Needs.{NamesRecord, Shades, ShadesAll}
+use Rattle.shading.specs.Needs.{Shadable, Shades, ShadesAll}
 
 -- what is not white stays
 black : (p : ℕ) (t : List ℕ) (v : ℕ) (b : List ℕ) → is_white p t v b ≡ false → Shades p t v b 0 b
 unfolding shade
 black p t v b e = record { count = rw e; bits = rw e }
 
-pub nil_shades : (p : ℕ) (t : List ℕ) (v : ℕ) (b : List ℕ) → v ≡ nil → Shades p t v b 0 b
-nil_shades p t v b e = black p t v b (rw (eq-eqb v nil e))
+pub nil_shades : (p : ℕ) (t : List ℕ) (v : ℕ) (b : List ℕ) → true ≡ eqb v nil → Shades p t v b 0 b
+nil_shades p t v b e = black p t v b (rw (← e))
 
--- a value that names the record at word w
-module _ (p : ℕ) (t : List ℕ) (v : ℕ) (b : List ℕ) (named : NamesRecord p t v) {w : ℕ} (e : w ≡ word_of v) where
-  white_is : (m : Bool) → bit_at b (marked_part * (page_words * p) + w) ≡ m → bit_in (page_words * p) marked b (word_of v) ≡ m
+-- a value that is not nil, and names the record at word w
+module _ {p : ℕ} {t b : List ℕ} {v : ℕ} (S : Shadable p t b v) (d : false ≡ eqb v nil) {w : ℕ} (e : w ≡ word_of v) where
+  marked_is : {m : Bool} → m ≡ bit_at b (marked_part * (page_words * p) + w) → bit_in (page_words * p) marked b (word_of v) ≡ m
   unfolding bit_in
-  white_is m x = rw (← e) (rw (lt-ltb w (page_words * p) (omega (arith, named.word))) x)
+  marked_is x =
+      let n = S.named (eqb-false v nil (sym d)) in
+      rw (← e) (rw (lt-ltb w (page_words * p) (omega (arith, n.word))) (sym x))
 
-  pub marked_shades : bit_at b (marked_part * (page_words * p) + w) ≡ true → Shades p t v b 0 b
-  marked_shades x = black p t v b (rw (white_is true x) (and-false (not (eqb v nil))))
+  pub marked_shades : true ≡ bit_at b (marked_part * (page_words * p) + w) → Shades p t v b 0 b
+  marked_shades x = black p t v b (rw (marked_is x) (and-false (not (eqb v nil))))
 
-  module _ (d : v ≢ nil) (x : bit_at b (marked_part * (page_words * p) + w) ≡ false) where
+  module _ (x : false ≡ bit_at b (marked_part * (page_words * p) + w)) {b' : List ℕ} (f : b' ≡ with_bit (marked_part * (page_words * p) + w) true b) where
     -- a white record in a noscan span
-    pub noscan_shades : is_scan t (span_of t w) ≡ false → {b' : List ℕ} → b' ≡ with_bit (marked_part * (page_words * p) + w) true b → Shades p t v b 1 b'
+    pub noscan_shades : {s : Bool} → s ≡ is_scan t (span_of t w) → s ≡ false → Shades p t v b 1 b'
     unfolding shade put_bit
-    noscan_shades s f = record { count = rw (ne_eqb v nil d, white_is false x); bits = rw (ne_eqb v nil d, white_is false x, ← e, s, f) }
+    noscan_shades q s = record { count = rw (← d, marked_is x); bits = rw (← d, marked_is x, ← e, ← q, s, f) }
 
     -- .. in a scan span
-    pub scan_shades : is_scan t (span_of t w) ≡ true → {b' b'' : List ℕ} → b' ≡ with_bit (marked_part * (page_words * p) + w) true b → b'' ≡ with_bit (gray_part * (page_words * p) + w) true b' → Shades p t v b 1 b''
+    pub scan_shades : {s : Bool} → s ≡ is_scan t (span_of t w) → s ≡ true → {b'' : List ℕ} → b'' ≡ with_bit (gray_part * (page_words * p) + w) true b' → Shades p t v b 1 b''
     unfolding shade put_bit
-    scan_shades s f g = record { count = rw (ne_eqb v nil d, white_is false x); bits = rw (ne_eqb v nil d, white_is false x, ← e, s, g, f) }
+    scan_shades q s g = record { count = rw (← d, marked_is x); bits = rw (← d, marked_is x, ← e, ← q, s, g, f) }
 
 -- the barrier outside the mark phase, and in it
 pub no_barrier : (p : ℕ) (a t b r : List ℕ) (old new : ℕ) → get_or r phase_at 0 ≢ mark → b ≡ barrier (lent p a t b r) old new

@@ -1,5 +1,5 @@
 -- What shading asks of the values that it is given, with the page table and the bitmaps, and what it leaves.
-use Rattle.std.specs.Prelude.{ℕ, ◌+◌, ◌*◌, ◌<◌, ◌≤◌, cond, List, ◌≢◌, ◌≡◌, length, get_or}
+use Rattle.std.specs.Prelude.{ℕ, ◌*◌, ◌<◌, cond, List, ◌≢◌, ◌≡◌, length, get_or}
 use Rattle.model.specs.Memory.{Heap, page_words, nil}
 use Rattle.model.specs.Spans.{span_of, record_of}
 use Rattle.model.specs.Shading.{is_white, shade, shade_all, shade_count}
@@ -23,11 +23,10 @@ pub record Stored (p : ℕ) (t b r : List ℕ) (old new : ℕ) : Type 0 where
   pub old_named : old ≢ nil → NamesRecord p t old
   pub new_named : new ≢ nil → NamesRecord p t new
 
--- n values of a list that may be shaded, from a place on
-pub record ShadableSlice (p : ℕ) (t b words : List ℕ) (from n : ℕ) : Type 0 where
+-- a list of values that may be shaded
+pub record ShadableSlice (p : ℕ) (t b words : List ℕ) : Type 0 where
   pub tables : Tables p t b
-  pub inside : from + n ≤ length words
-  pub each : (i : ℕ) → i < n → get_or words (from + i) 0 ≢ nil → NamesRecord p t (get_or words (from + i) 0)
+  pub each : (i : ℕ) → i < length words → get_or words i 0 ≢ nil → NamesRecord p t (get_or words i 0)
 
 -- What shading leaves: how many mark bits it turned on, and the bitmaps. One value ..
 pub record Shades (p : ℕ) (t : List ℕ) (v : ℕ) (b : List ℕ) (r : ℕ) (after : List ℕ) : Type 0 where
@@ -43,13 +42,13 @@ pub record ShadesAll (p : ℕ) (t : List ℕ) (n : ℕ) (value : ℕ → ℕ) (b
 abbrev pub LentStore : ℕ → Borrowed → Borrowed → Borrowed → ℕ → ℕ → Type 0
 LentStore p table bits roots old new = Stored p table bits roots old new
 
-abbrev pub LentSlice : ℕ → Borrowed → Borrowed → Borrowed → ℕ → ℕ → Type 0
-LentSlice p table bits words from n = ShadableSlice p table bits words from n
+abbrev pub LentSlice : ℕ → Borrowed → Borrowed → Borrowed → Type 0
+LentSlice p table bits words = ShadableSlice p table bits words
 
--- .. and what is promised: the bitmaps that a function of the heap gives, for every arena; the slice's n values shaded
+-- .. and what is promised: the bitmaps that a function of the heap gives, for every arena; the slice's values shaded
 abbrev pub LeavesBits : (Heap → List ℕ) → ℕ → Buffer → Buffer → Buffer → Type 0
 LeavesBits f p table bits roots = (a : List ℕ) → bits.exit ≡ f (found_with a p table bits roots)
 
-abbrev pub ShadesSlice : ℕ → Buffer → Buffer → Buffer → ℕ → ℕ → ℕ → Type 0
-ShadesSlice p table bits words from n r =
-    ShadesAll p table.entry n (λ i. get_or words.entry (from + i) 0) bits.entry r bits.exit
+abbrev pub ShadesSlice : ℕ → Buffer → Buffer → Buffer → ℕ → Type 0
+ShadesSlice p table bits words r =
+    ShadesAll p table.entry (length words.entry) (λ i. get_or words.entry i 0) bits.entry r bits.exit

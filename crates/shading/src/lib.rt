@@ -25,12 +25,10 @@ fn shade(p: usize, table: &[u32], bits: &mut [u64], v: Address) -> u64
         return 0;
     }
     bitmap::set(bits, marked);
-    let span = page_table::span_with_word(table, record);
-    let scan = span.scan;
-    if !scan {
-        return 1;
+    let scan = page_table::span_with_word(table, record).scan;
+    if scan {
+        bitmap::set(bits, units::GRAY_PART * words + w);
     }
-    bitmap::set(bits, units::GRAY_PART * words + w);
     1
 }
 
@@ -39,31 +37,20 @@ pub fn barrier(p: usize, table: &[u32], bits: &mut [u64], roots: &[u64], old: Ad
     requires { LentStore p table.now bits.old roots.now old.0 new.0 }
     ensures { LeavesBits (λ h. barrier h old.0 new.0) p (shared table) (exclusive bits) (shared roots) }
 {
-    if roots[units::PHASE] != units::MARK {
-        return;
+    if roots[units::PHASE] == units::MARK {
+        shade(p, table, bits, old);
+        shade(p, table, bits, new);
     }
-    shade(p, table, bits, old);
-    shade(p, table, bits, new);
 }
 
-// Shade the n values from `from` on.
-pub fn shade_slice(
-    p: usize,
-    table: &[u32],
-    bits: &mut [u64],
-    words: &[u64],
-    from: usize,
-    n: usize,
-) -> u64
-    requires { LentSlice p table.now bits.old words.now from n }
-    ensures { ShadesSlice p (shared table) (exclusive bits) (shared words) from n result }
+// Shade the values of a slice.
+pub fn shade_slice(p: usize, table: &[u32], bits: &mut [u64], words: &[u64]) -> u64
+    requires { LentSlice p table.now bits.old words.now }
+    ensures { ShadesSlice p (shared table) (exclusive bits) (shared words) result }
 {
-    let mut k = 0;
     let mut count: u64 = 0;
-    while k < n {
-        let v = words[from + k];
-        k += 1;
-        count += shade(p, table, bits, Address(v));
+    for v in words {
+        count += shade(p, table, bits, Address(*v));
     }
     count
 }
