@@ -1,29 +1,31 @@
 -- What the searches for a free element find.
-use Rattle.std.specs.Prelude.{ℕ, ◌<◌, ◌≤◌, true, false, ◌≡◌}
+use Rattle.std.specs.Prelude.{ℕ, ◌<◌, ◌≤◌, true, false, Option, Some, None, ◌≡◌}
 use Rattle.model.specs.Bounded.{◌<?◌}
 use Rattle.model.specs.Memory.{Heap}
 use Rattle.model.specs.Spans.{element_start}
 use Rattle.model.specs.Allocate.{free_element, has_room, span_with_room}
-use Rattle.element_search.specs.declared.Free.{Free}
+use Rattle.units.specs.declared.Word.{Word}
 
--- in the span at page s, if it is a swept one of the kind
-pub record FreeIn (h : Heap) (kind s : ℕ) (r : Free) : Type 0 where
-  pub found : r.found ≡ has_room h kind s
-  pub word : r.found ≡ true → r.word.0 ≡ element_start h.table s (free_element h s)
+-- the lowest free element of the span at page s, by its first word, if it is a swept span of the kind and has one
+abbrev pub FreeIn : Heap → ℕ → ℕ → Option Word → Type 0
+FreeIn h kind s (Some word) = (has_room h kind s ≡ true) × (word.0 ≡ element_start h.table s (free_element h s))
+FreeIn h kind s None = has_room h kind s ≡ false
 
--- in the lowest swept span of the kind that has room, of those that start from page `from` on and before page `to`: at page s, or in none
-pub record Lowest (h : Heap) (kind from to : ℕ) (r : Free) : Type 0 where
+-- that of the lowest swept span of the kind that has room, of those that start from page `from` on and before page `to`: at page s ..
+pub record Lowest (h : Heap) (kind from to : ℕ) (word : Word) : Type 0 where
   pub page : ℕ
   pub low : from ≤ page
   pub high : page < to
   pub before : (k : ℕ) → from ≤ k → k < page → has_room h kind k ≡ false
-  pub here : FreeIn h kind page r
+  pub here : FreeIn h kind page (Some word)
 
-pub record FreeBetween (h : Heap) (kind from to : ℕ) (r : Free) : Type 0 where
-  pub found : r.found ≡ true → Lowest h kind from to r
-  pub none : r.found ≡ false → (k : ℕ) → from ≤ k → k < to → has_room h kind k ≡ false
+-- .. or none of them has any
+abbrev pub FreeBetween : Heap → ℕ → ℕ → ℕ → Option Word → Type 0
+FreeBetween h kind from to (Some word) = Lowest h kind from to word
+FreeBetween h kind from to None = (k : ℕ) → from ≤ k → k < to → has_room h kind k ≡ false
 
--- in the lowest swept span of the kind that has room, of all
-pub record FreeOf (h : Heap) (kind : ℕ) (r : Free) : Type 0 where
-  pub found : r.found ≡ (span_with_room h kind <? h.pages)
-  pub word : let s = span_with_room h kind in r.found ≡ true → r.word.0 ≡ element_start h.table s (free_element h s)
+-- that of the lowest swept span of the kind that has room, of all
+abbrev pub FreeOf : Heap → ℕ → Option Word → Type 0
+FreeOf h kind (Some word) =
+    let s = span_with_room h kind in ((s <? h.pages) ≡ true) × (word.0 ≡ element_start h.table s (free_element h s))
+FreeOf h kind None = (span_with_room h kind <? h.pages) ≡ false

@@ -1,5 +1,5 @@
 -- The invariant: no span from page `from` on and below page s has room.
-use Prim.Native.Nat.{ℕ, ◌≤◌, ◌<◌, ◌-◌}
+use Prim.Native.Nat.{ℕ, ◌≤◌, ◌<◌}
 use mathlib.Core.Bool.{false}
 use mathlib.Core.List.{List}
 use mathlib.Core.Path.{◌≡◌}
@@ -8,7 +8,4 @@ use Rattle.model.specs.Allocate.{has_room}
 use Rattle.element_search.proofs.free_between.Given as goal
 
 abbrev pub invariant-loop-s : goal.invariant-loop-s
-invariant-loop-s l = (l.initial.s ≤ l.s) × ((k : ℕ) → l.initial.s ≤ k → k < l.s → (a o : List ℕ) → has_room (lent l.p a l.table l.bits o) l.kind k ≡ false)
-
-abbrev pub decreases-loop-s : goal.decreases-loop-s
-decreases-loop-s l = l.end - l.s
+invariant-loop-s l = (k : ℕ) → l.initial.s ≤ k → k < l.s → (a o : List ℕ) → has_room (lent l.p a l.table l.bits o) l.kind k ≡ false
