@@ -2,6 +2,7 @@
 use Rattle.std.specs.Prelude.{ℕ, ◌+◌, ◌<◌, Bool, true, false, ◌≡◌, ltb, Some, None, refl, if◌then◌else◌}
 use native.Mathlib.Omega.{arith}
 use borrow.Author.Tests.{lt-ltb, le-ltb, ltb-true, ltb-false}
+use Rattle.std.specs.Option.{unwrap_or}
 use Rattle.model.specs.Bounded.{first_below}
 use Rattle.model.proofs.Bounded.{First, first_is, first_props}
 use Rattle.bitmap.specs.Search.{found}
@@ -26,3 +27,11 @@ module _ (from n : ℕ) (t : ℕ → Bool) where
       go : (b : Bool) → ltb (first_below n t) n ≡ b → None ≡ (if b then Some (from + first_below n t) else None) → first_below n t ≡ n
       go true p q = absurd (cc)
       go false p q = omega (arith, ltb-false (first_below n t) n p, (first_props n t).within)
+
+  -- .. or else the end
+  pub found_or : (to : ℕ) → to ≡ from + n → unwrap_or (found from n t) to ≡ from + first_below n t
+  found_or to e = go (ltb (first_below n t) n) refl
+    where
+      go : (b : Bool) → ltb (first_below n t) n ≡ b → unwrap_or (if b then Some (from + first_below n t) else None) to ≡ from + first_below n t
+      go true p = refl
+      go false p = omega (arith, ltb-false (first_below n t) n p, (first_props n t).within)

@@ -4,37 +4,43 @@
 // time: each wrong program proves its whole crate again.
 #![tactic(auto)]
 
-ghost use Rattle.std.specs.Prelude.{◌≡◌, not, ◌+◌, ◌-◌, ◌*◌, ◌≤◌, length};
+ghost use Rattle.std.specs.Prelude.{◌≡◌, ℕ, not, ◌+◌, ◌-◌, ◌*◌, ◌≤◌, length, option_map};
 ghost use Rattle.model.specs.Bounded.{first_below};
 ghost use Rattle.model.specs.Memory.{word_bits};
 ghost use Rattle.model.specs.Bitmaps.{bit_at};
 ghost use Rattle.model.specs.Lent.{Bitmaps};
 ghost use Rattle.bitmap_search.specs.Freed.{next_freed, SearchRange};
+ghost use Rattle.bitmap_search.specs.Search.{Readable, FindsIn};
 
 use units::{ALL_BITS, MARKED_PART, PAGE_BLOCKS, WORD_BITS, Word};
 
-// The lowest element start from word `from` on and below `to`, the end of a span, that is allocated
-// and not marked, or `to`.
-pub fn next_freed(p: usize, bits: &[u64], from: Word, to: Word) -> Word
-    requires { Bitmaps p bits.now × SearchRange p from.0 to.0 }
-    ensures { result.0 ≡ next_freed p bits.now from.0 to.0 }
+// The lowest bit at or after `from` and below `to` that is on in the words that `word` reads.
+fn first_passing<F: Fn(usize) -> u64>(from: usize, to: usize, word: F) -> Option<usize>
+    requires order { from ≤ to }
+    requires readable { Readable to (λ at. F.pre word at) }
+    ensures { FindsIn from to (λ at w. F.post word at w) result }
 {
-    let low = from.0;
-    let marks = MARKED_PART * (PAGE_BLOCKS * p);
-    let end = to.0 / WORD_BITS;
-    let mut at = low / WORD_BITS;
     // the bits of the word from `from` on: all of them, in any word but the first
-    let mut mask = ALL_BITS << (low % WORD_BITS);
-    while at < end {
-        let found = u64::trailing_zeros(bits[at] & !bits[marks + at] & mask) as usize;
-        if found < WORD_BITS {
-            let word = at * WORD_BITS + found;
-            return Word(word);
+    let mut mask = ALL_BITS << (from % WORD_BITS);
+    for at in from / WORD_BITS..bitmap::words_below(to) {
+        let passed = (word(at) & mask).trailing_zeros() as usize;
+        if passed < WORD_BITS {
+            let bit = at * WORD_BITS + passed;
+            return (bit < to).then_some(bit);
         }
-        at += 1;
         mask = ALL_BITS;
     }
-    to
+    None
+}
+
+// The lowest element start from word `from` on and below `to`, the end of a span, that is allocated
+// and not marked.
+pub fn next_freed(p: usize, bits: &[u64], from: Word, to: Word) -> Option<Word>
+    requires { Bitmaps p bits.now × SearchRange p from.0 to.0 }
+    ensures { option_map (λ w. w.0) result ≡ next_freed p bits.now from.0 to.0 }
+{
+    let marks = MARKED_PART * (PAGE_BLOCKS * p);
+    first_passing(from.0, to.0, |at| bits[at] & !bits[marks + at]).map(Word)
 }
 
 // The lowest clear bit at or after `from` and below `to`, or `to`.
@@ -42,20 +48,5 @@ pub fn first_clear(ws: &[u64], from: usize, to: usize) -> usize
     requires { (from ≤ to) × (to ≤ word_bits * length ws.now) }
     ensures { result ≡ from + first_below (to - from) (λ k. not (bit_at ws.now (from + k))) }
 {
-    let end = bitmap::words_below(to);
-    let mut at = from / WORD_BITS;
-    let mut mask = ALL_BITS << (from % WORD_BITS);
-    while at < end {
-        let found = u64::trailing_zeros(!ws[at] & mask) as usize;
-        if found < WORD_BITS {
-            let bit = at * WORD_BITS + found;
-            if bit < to {
-                return bit;
-            }
-            return to;
-        }
-        at += 1;
-        mask = ALL_BITS;
-    }
-    to
+    first_passing(from, to, |at| !ws[at]).unwrap_or(to)
 }
