@@ -28,15 +28,19 @@ module _ (p : ℕ) (t b r : List ℕ) where
       let z : slot_count * s + (i - slot_count * s) ≡ i = omega arith in
       inl (rw z at (S.closed s (i - slot_count * s) l (omega arith) e))
 
-  pub range_part : (from to : ℕ) → from ≤ to → to ≤ length r →
-      RootRange p t b (take (to - from) (drop from r)) 0 (length (take (to - from) (drop from r))) ↔ RootRange p t b r from to
-  range_part from to l m = (λ A i h k. whole A i h k, λ B i _ k. rw (word i (omega (arith, long))) (B (from + i) (omega arith) (omega (arith, long))))
+  -- a test of the words from `from` on and before `to`
+  pub range_part : (from to : ℕ) (ws : List ℕ) (a : Bool) → T a ↔ RootRange p t b ws 0 (length ws) → ws ≡ take (to - from) (drop from r) → from ≤ to → to ≤ length r →
+      T a ↔ RootRange p t b r from to
+  range_part from to ws a f e l m = (λ x. whole (rw e at (f.0 x)), λ B. f.1 (rw e (part B)))
     where
       long : length (take (to - from) (drop from r)) ≡ to - from
       long = omega (arith, length-take (to - from) (drop from r), length-drop from r)
 
       word : (i : ℕ) → i < to - from → get_or (take (to - from) (drop from r)) i 0 ≡ get_or r (from + i) 0
       word i k = get_or-take (to - from) (drop from r) i 0 k ∙ get_or-drop from r i 0
+
+      part : RootRange p t b r from to → RootRange p t b (take (to - from) (drop from r)) 0 (length (take (to - from) (drop from r)))
+      part B i _ k = rw (word i (omega (arith, long))) (B (from + i) (omega arith) (omega (arith, long)))
 
       whole : RootRange p t b (take (to - from) (drop from r)) 0 (length (take (to - from) (drop from r))) → RootRange p t b r from to
       whole A i h k =
