@@ -1,25 +1,15 @@
 -- Refused, or one slot set.
-use mathlib.Core.Path.{sym, ◌∙◌}
-use native.Mathlib.Omega.{arith}
+use mathlib.Core.Path.{sym}
 use Rattle.model.specs.Memory.{lent}
-use Rattle.model.proofs.Outcomes.{refused, not_refused}
 use Rattle.model.specs.Records.{clear}
-use Rattle.root_checks.proofs.Passed.{slot_bounds}
+use Rattle.model.proofs.Outcomes.{not_refused}
+use Rattle.root_checks.proofs.Passed.{call_refused}
 use Rattle.call_stacks.proofs.clear.Goals as goal
 
-pub returns-then-n-ne0 : goal.returns-then-n-ne0
+pub returns-in_err-check_slot : goal.returns-in_err-check_slot
 unfolding clear
-returns-then-n-ne0 c = λ p a t b. refused _ (lent p a t b _) _ _ (c.slot_refusal-n.ensures p a t b) c.if-n-ne0.true
-
-pub slot_at-at-requires : goal.slot_at-at-requires
-slot_at-at-requires c = omega (arith, slot_bounds _ _ _ c.slot_refusal-n.ensures c.if-n-ne0.false)
-
-pub offset_bounds-roots-at : goal.offset_bounds-roots-at
-offset_bounds-roots-at c = omega (arith, slot_bounds _ _ _ c.slot_refusal-n.ensures c.if-n-ne0.false)
-
-pub bounds-roots-at : goal.bounds-roots-at
-bounds-roots-at c = omega (arith, slot_bounds _ _ _ c.slot_refusal-n.ensures c.if-n-ne0.false)
+returns-in_err-check_slot c = λ p a t b. call_refused _ _ c.from_residual.ensures.1 (lent p a t b _) (c.in_err-check_slot.ensures.refusal p a t b) _ _
 
 pub returns : goal.returns
 unfolding clear
-returns c = λ p a t b. rw c.slot_at-at.ensures (not_refused _ (lent p a t b _) _ _ (sym (c.slot_refusal-n.ensures p a t b) ∙ c.if-n-ne0.false))
+returns c = λ p a t b. rw c.slot_at-at.ensures (not_refused _ (lent p a t b _) _ _ (sym (c.in_ok-check_slot.ensures.refusal p a t b)))

@@ -1,18 +1,15 @@
 -- Refused, or what `empty` leaves.
-use mathlib.Core.Path.{sym, ◌∙◌}
+use mathlib.Core.Path.{sym}
 use Rattle.model.specs.Memory.{lent}
-use Rattle.model.proofs.Outcomes.{refused, not_refused}
 use Rattle.model.specs.Records.{close_stack, emptied}
-use Rattle.root_checks.proofs.Passed.{open_bounds}
+use Rattle.model.proofs.Outcomes.{not_refused}
+use Rattle.root_checks.proofs.Passed.{call_refused}
 use Rattle.call_stacks.proofs.close_stack.Goals as goal
 
-pub returns-then-n-ne0 : goal.returns-then-n-ne0
+pub returns-in_err-check_open : goal.returns-in_err-check_open
 unfolding close_stack
-returns-then-n-ne0 c = λ p a t b. refused _ (lent p a t b _) _ _ (c.not_open-n.ensures p a t b) c.if-n-ne0.true
-
-pub empty-requires : goal.empty-requires
-empty-requires c = (open_bounds c.args.roots.now _ c.not_open-n.ensures c.if-n-ne0.false, c.requires)
+returns-in_err-check_open c = λ p a t b. call_refused _ _ c.from_residual.ensures.1 (lent p a t b _) (c.in_err-check_open.ensures.refusal p a t b) _ _
 
 pub returns : goal.returns
 unfolding close_stack emptied
-returns c = λ p a t b. rw (c.empty.ensures p a t b) (not_refused _ (lent p a t b _) _ _ (sym (c.not_open-n.ensures p a t b) ∙ c.if-n-ne0.false))
+returns c = λ p a t b. rw (c.empty.ensures p a t b) (not_refused _ (lent p a t b _) _ _ (sym (c.in_ok-check_open.ensures.refusal p a t b)))

@@ -1,18 +1,15 @@
 -- Refused, or what `empty` leaves.
-use mathlib.Core.Path.{sym, ◌∙◌}
+use mathlib.Core.Path.{sym}
 use Rattle.model.specs.Memory.{lent}
-use Rattle.model.proofs.Outcomes.{refused, not_refused}
 use Rattle.model.specs.Records.{open_stack, emptied}
-use Rattle.root_checks.proofs.Passed.{closed_bounds}
+use Rattle.model.proofs.Outcomes.{not_refused}
+use Rattle.root_checks.proofs.Passed.{call_refused}
 use Rattle.call_stacks.proofs.open_stack.Goals as goal
 
-pub returns-then-n-ne0 : goal.returns-then-n-ne0
+pub returns-in_err-check_closed : goal.returns-in_err-check_closed
 unfolding open_stack
-returns-then-n-ne0 c = λ p a t b. refused _ (lent p a t b _) _ _ (c.not_closed-n.ensures p a t b) c.if-n-ne0.true
-
-pub empty-requires : goal.empty-requires
-empty-requires c = (closed_bounds c.args.roots.now _ c.not_closed-n.ensures c.if-n-ne0.false, c.requires)
+returns-in_err-check_closed c = λ p a t b. call_refused _ _ c.from_residual.ensures.1 (lent p a t b _) (c.in_err-check_closed.ensures.refusal p a t b) _ _
 
 pub returns : goal.returns
 unfolding open_stack emptied
-returns c = λ p a t b. rw (c.empty.ensures p a t b) (not_refused _ (lent p a t b _) _ _ (sym (c.not_closed-n.ensures p a t b) ∙ c.if-n-ne0.false))
+returns c = λ p a t b. rw (c.empty.ensures p a t b) (not_refused _ (lent p a t b _) _ _ (sym (c.in_ok-check_closed.ensures.refusal p a t b)))
