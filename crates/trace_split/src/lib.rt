@@ -8,7 +8,7 @@ ghost use Rattle.model.specs.Promises.{exclusive, shared};
 
 use trace_read::LONGEST;
 
-const LINE_FEED: u8 = 10;
+const LINE_FEED: u8 = b'\n';
 
 // What a block gives: a line of so many bytes, with the place in the block after its line feed; so
 // many bytes of a line that is still under way; or a line that is too long.
@@ -25,12 +25,10 @@ pub fn take(line: &mut [u8], used: usize, block: &[u8], from: usize) -> Taken
     ensures { TakesBytes (exclusive line) used (shared block) from result }
 {
     let mut at = used;
-    let mut i = from;
-    while i < block.len() {
+    for i in from..block.len() {
         let b = block[i];
-        i += 1;
         if b == LINE_FEED {
-            return Taken::Line(at, i);
+            return Taken::Line(at, i + 1);
         }
         if at == LONGEST {
             return Taken::TooLong;

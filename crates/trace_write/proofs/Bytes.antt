@@ -1,37 +1,37 @@
 -- Laws of the bytes written: a number's digits, and one run of bytes after another.
 use Prim.Native.Nat.{ℕ, zero, suc, ◌+◌, ◌/◌, ◌%◌, ◌^◌, ◌<◌, ◌≤◌}
 use mathlib.Core.Bool.{Bool, true, false, cond}
-use mathlib.Core.List.{List, [], ◌∷◌, ◌++◌}
+use mathlib.Core.List.{List, [], ◌∷◌, ◌++◌, append_assoc}
 use mathlib.Core.Path.{◌≡◌, refl, ◌∙◌, ap}
-use native.Mathlib.Nat.{pow-suc}
 use native.Mathlib.Numerals.{add-one}
 use native.Mathlib.Omega.{arith}
 use lib.Dec.{ltb}
 use lib.ListN.{length, set, length-append}
-use lib.Seq.{sets}
+use lib.Seq.{sets, sets-eq}
+use borrow.Rule.Slice.PartMut.{put_mid}
+use Rattle.std.specs.Fmt.{decimal as std_decimal}
+use Rattle.std.proofs.lemmas.Fmt.{AppendsLastDigit, decimal_from_appends, length-decimal-le, decimal_step as std_decimal_step}
+use Rattle.std.proofs.lemmas.List.{drop-drop}
 use borrow.Author.Tests.{lt-ltb, le-ltb}
 use Rattle.model.specs.declared.Answer.{Answer}
 use Rattle.model.specs.declared.Answer.TheVariants.{Refused, Done, Value, Swept}
 use Rattle.trace_write.specs.Text.{decimal_in, decimal, answer_text, bad_text, longest_answer, Wrote}
 
--- more places than a number takes make no difference
-enough : (k n : ℕ) → n < 10 ^ suc k → decimal_in (suc (suc k)) n ≡ decimal_in (suc k) n
+-- the digits are the library's, and a number has at most 20 of them
+appends : AppendsLastDigit decimal_in
 unfolding decimal_in
-enough zero n h = rw (lt-ltb n 10 (omega arith))
-enough (suc k) n h = go (ltb n 10) (enough k (n / 10) (omega (arith, rw (pow-suc 10 (suc k)) at h)))
-  where
-    go : (p : Bool) → decimal_in (suc (suc k)) (n / 10) ≡ decimal_in (suc k) (n / 10) →
-        cond p ((48 + n) ∷ []) (decimal_in (suc (suc k)) (n / 10) ++ ((48 + n % 10) ∷ [])) ≡ cond p ((48 + n) ∷ []) (decimal_in (suc k) (n / 10) ++ ((48 + n % 10) ∷ []))
-    go true e = refl
-    go false e = ap (λ l. l ++ ((48 + n % 10) ∷ [])) e
+appends = record { one = λ k n h. rw (lt-ltb n 10 h); more = λ k n h. rw (le-ltb n 10 h) }
+
+same : (n : ℕ) → n < 2 ^ 64 → decimal n ≡ std_decimal n
+unfolding decimal
+same n l = decimal_from_appends decimal_in appends 20 n l (length-decimal-le 20 n (omega arith) (omega arith) l)
 
 pub decimal_digit : (n : ℕ) → n < 10 → decimal n ≡ (48 + n) ∷ []
-unfolding decimal decimal_in
-decimal_digit n h = rw (lt-ltb n 10 h)
+unfolding decimal
+decimal_digit n h = appends.one 19 n h
 
 pub decimal_step : (n : ℕ) → 10 ≤ n → n < 2 ^ 64 → decimal n ≡ decimal (n / 10) ++ ((48 + n % 10) ∷ [])
-unfolding decimal decimal_in
-decimal_step n h l = rw (le-ltb n 10 h, ← enough 18 (n / 10) (omega arith))
+decimal_step n h l = rw (same n l, same (n / 10) (omega arith)) (std_decimal_step n h l)
 
 -- .. and its length
 pub length_digit : (n : ℕ) → n < 10 → length (decimal n) ≡ 1
@@ -71,9 +71,9 @@ byte a at b = record { buffer = refl; end = refl }
 pub byte_then : {ys : List ℕ} {a c : List ℕ} {r : ℕ} (at b : ℕ) → Wrote ys (at + 1) (set a at b) c r → Wrote (b ∷ ys) at a c r
 byte_then {ys} {a} {c} {r} at b w = record { buffer = w.buffer ∙ rw add-one; end = omega (arith, w.end) }
 
--- the place after the last byte, written otherwise
-pub moved : {xs a c : List ℕ} {at e r : ℕ} → e ≡ r → Wrote xs at a c e → Wrote xs at a c r
-moved h w = record { buffer = w.buffer; end = omega (arith, w.end, h) }
+-- bytes copied over a part of a buffer
+pub copied : (a k : ℕ) (l xs ys : List ℕ) → ys ≡ xs → k ≡ length xs → a + length xs ≤ length l → put_mid a k l ys ≡ sets l a xs
+copied a k l xs ys e f h = rw (e, f, sets-eq xs l a h, append_assoc, drop-drop (length xs) a l)
 
 -- no line is longer than the longest
 pub answer_length : (a : Answer) → length (answer_text a) ≤ longest_answer

@@ -1,5 +1,6 @@
 -- The bytes that the trace program writes for a call's answer, and for a line that does not read.
 use Rattle.std.specs.Prelude.{ℕ, zero, suc, ◌+◌, ◌/◌, ◌%◌, List, [], ◌∷◌, ◌++◌, ◌≡◌, length, if◌then◌else◌}
+use Rattle.std.specs.List.{flat_map}
 use Rattle.std.proofs.lemmas.List.Edits.{sets}
 use Rattle.model.specs.Bounded.{◌<?◌}
 use Rattle.model.specs.declared.Answer.{Answer}
@@ -18,6 +19,9 @@ decimal n = decimal_in 20 n
 abbrev pub spaced : ℕ → List ℕ
 spaced n = 32 ∷ decimal n
 
+abbrev pub longest_spaced : ℕ
+longest_spaced = 21
+
 -- "Every output line ends with a line feed."
 abbrev pub line_end : List ℕ
 line_end = 10 ∷ []
@@ -32,16 +36,20 @@ no_word = 110 ∷ 111 ∷ []
 abbrev pub bad_word : List ℕ
 bad_word = 98 ∷ 97 ∷ 100 ∷ []
 
+-- a line: a word, then numbers
+abbrev pub line_text : List ℕ → List ℕ → List ℕ
+line_text word numbers = word ++ flat_map spaced numbers ++ line_end
+
 -- "Each line answers `ok` with its numbers (none for O, C, S, W, P, T, F and H) or `no` and the refusal."
 abbrev pub answer_text : Answer → List ℕ
-answer_text (Refused n) = no_word ++ spaced n ++ line_end
-answer_text Done = ok_word ++ line_end
-answer_text (Value v) = ok_word ++ spaced v ++ line_end
-answer_text (Swept start freed returned) = ok_word ++ spaced start ++ spaced freed ++ spaced returned ++ line_end
+answer_text (Refused n) = line_text no_word (n ∷ [])
+answer_text Done = line_text ok_word []
+answer_text (Value v) = line_text ok_word (v ∷ [])
+answer_text (Swept start freed returned) = line_text ok_word (start ∷ freed ∷ returned ∷ [])
 
 -- "A line that does not read prints `bad` and its line number"
 abbrev pub bad_text : ℕ → List ℕ
-bad_text number = bad_word ++ spaced number ++ line_end
+bad_text number = line_text bad_word (number ∷ [])
 
 -- no output line is longer: `ok` and three numbers
 abbrev pub longest_answer : ℕ
