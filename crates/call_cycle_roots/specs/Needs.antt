@@ -1,5 +1,6 @@
 -- What a scan that is not refused asks of the buffers, and what it comes to.
-use Rattle.std.specs.Prelude.{ℕ, ◌+◌, ◌<◌, List, get_or}
+use Rattle.std.specs.Prelude.{ℕ, ◌+◌, ◌<◌, ◌≤◌, List, get_or}
+use Rattle.std.specs.List.{between}
 use Rattle.model.specs.Memory.{root_words}
 use Rattle.model.specs.Cycle.{scan_outcome}
 use Rattle.model.specs.declared.Answer.{Answer}
@@ -9,7 +10,8 @@ use Rattle.shading.specs.Needs.{ShadableSlice}
 
 -- n words of the roots from word `from` on, the slots of a stack or the globals, and the word `at` that has their state
 pub record Scannable (p : ℕ) (t b r : List ℕ) (from n at : ℕ) : Type 0 where
-  pub values : ShadableSlice p t b r from n
+  pub values : ShadableSlice p t b (between from (from + n) r)
+  pub inside : from + n ≤ root_words
   pub roots : Roots r
   pub state : at < root_words
 

@@ -3,16 +3,17 @@
 // it is lent the buffers for.
 #![tactic(auto)]
 
-ghost use Rattle.std.specs.Prelude.{◌≡◌, cond, eqb, get_or};
+ghost use Rattle.std.specs.Prelude.{◌≡◌, ◌<◌, OnOk, cond, eqb, get_or};
 ghost use Rattle.model.specs.Memory.{put_words, first_state, stack_count, closed, gray_state, mark};
 ghost use Rattle.model.specs.Answers.{◌or_else◌};
 ghost use Rattle.model.specs.Checks.{phase_refusal, open_refusal};
 ghost use Rattle.model.specs.Cycle.{start, scan_stack, scan_globals};
 ghost use Rattle.model.specs.Lent.{Roots};
 ghost use Rattle.model.specs.Promises.{AuditedTables, DoesByRoots, DoesWithoutArena, GivesByRoots, exclusive, shared};
+ghost use Rattle.model.specs.Refusals.{answered, refused, told};
 ghost use Rattle.call_cycle_roots.specs.Needs.{LentScan, Scans};
 
-use model::Answer;
+use model::{Accepted, Refusal};
 
 // The state of a stack once a cycle starts.
 fn grayed(state: u64) -> u64
@@ -30,26 +31,21 @@ fn gray_stacks(roots: &mut [u64])
     ensures { roots.new ≡ put_words first_state stack_count
         (λ i. cond (eqb (get_or roots.old i 0) closed) closed gray_state) roots.old }
 {
-    let mut done = 0;
-    while done < units::STACKS {
-        let at = units::FIRST_STATE + done;
-        done += 1;
-        roots[at] = grayed(roots[at]);
+    for state in roots[units::FIRST_STATE..units::FIRST_STATE + units::STACKS].iter_mut() {
+        *state = grayed(*state);
     }
 }
 
 // A cycle starts. No bitmap is lent: nothing is marked yet.
-pub fn start(roots: &mut [u64]) -> Answer
+pub fn start(roots: &mut [u64]) -> Result<Accepted, Refusal>
     requires { Roots roots.old }
-    ensures { DoesByRoots (λ h. start h) (exclusive roots) result }
+    ensures { DoesByRoots (λ h. start h) (exclusive roots) (answered result) }
 {
-    if roots[units::PHASE] != units::OFF {
-        return Answer::Refused(units::WRONG_PHASE);
-    }
+    root_checks::check_phase(roots, units::OFF)?;
     gray_stacks(roots);
     roots[units::GLOBALS_STATE] = units::GRAY;
     roots[units::PHASE] = units::MARK;
-    Answer::Done
+    Ok(Accepted::Done)
 }
 
 // The n values from word `from` of the roots on, the slots of a stack or the globals, are shaded, if
@@ -62,42 +58,43 @@ fn scan(
     from: usize,
     n: usize,
     at: usize,
-) -> Answer
+) -> Accepted
     requires { LentScan p table.now bits.old roots.old from n at }
-    ensures { Scans p (shared table) (exclusive bits) (exclusive roots) from n at result }
+    ensures { Scans p (shared table) (exclusive bits) (exclusive roots) from n at (told result) }
 {
     if roots[at] != units::GRAY {
-        return Answer::Value(0);
+        return Accepted::Value(0);
     }
-    let count = shading::shade_slice(p, table, bits, roots, from, n);
+    let count = shading::shade_slice(p, table, bits, &roots[from..from + n]);
     roots[at] = units::OPEN;
-    Answer::Value(count)
+    Accepted::Value(count)
 }
 
-// The refusal of a scan of stack s.
-fn scan_refusal(roots: &[u64], s: u64) -> u64
+// The phase is mark, and stack s open.
+fn check_scan(roots: &[u64], s: u64) -> Result<(), Refusal>
     requires { Roots roots.now }
-    ensures { GivesByRoots (λ h. phase_refusal h mark or_else open_refusal h s) (shared roots) result }
+    ensures refusal { GivesByRoots
+        (λ h. phase_refusal h mark or_else open_refusal h s) (shared roots) (refused result) }
+    ensures within { OnOk result (s < stack_count) }
 {
-    let phase = root_checks::not_in(roots, units::MARK);
-    let stack = root_checks::not_open(roots, s);
-    if phase != 0 {
-        return phase;
-    }
-    stack
+    root_checks::check_phase(roots, units::MARK).and(root_checks::check_open(roots, s))
 }
 
 // Stack s is scanned.
-pub fn scan_stack(p: usize, table: &[u32], bits: &mut [u64], roots: &mut [u64], s: u64) -> Answer
+pub fn scan_stack(
+    p: usize,
+    table: &[u32],
+    bits: &mut [u64],
+    roots: &mut [u64],
+    s: u64,
+) -> Result<Accepted, Refusal>
     requires { AuditedTables p table.now bits.old roots.old }
-    ensures { DoesWithoutArena (λ h. scan_stack h s) p (shared table) (exclusive bits) (exclusive roots) result }
+    ensures { DoesWithoutArena (λ h. scan_stack h s) p (shared table)
+        (exclusive bits) (exclusive roots) (answered result) }
 {
-    let n = scan_refusal(roots, s);
-    if n != 0 {
-        return Answer::Refused(n);
-    }
+    check_scan(roots, s)?;
     let stack = s as usize;
-    scan(
+    Ok(scan(
         p,
         table,
         bits,
@@ -105,18 +102,22 @@ pub fn scan_stack(p: usize, table: &[u32], bits: &mut [u64], roots: &mut [u64], 
         units::SLOTS * stack,
         units::SLOTS,
         units::FIRST_STATE + stack,
-    )
+    ))
 }
 
 // The globals are scanned.
-pub fn scan_globals(p: usize, table: &[u32], bits: &mut [u64], roots: &mut [u64]) -> Answer
+pub fn scan_globals(
+    p: usize,
+    table: &[u32],
+    bits: &mut [u64],
+    roots: &mut [u64],
+) -> Result<Accepted, Refusal>
     requires { AuditedTables p table.now bits.old roots.old }
-    ensures { DoesWithoutArena (λ h. scan_globals h) p (shared table) (exclusive bits) (exclusive roots) result }
+    ensures { DoesWithoutArena (λ h. scan_globals h) p (shared table)
+        (exclusive bits) (exclusive roots) (answered result) }
 {
-    if roots[units::PHASE] != units::MARK {
-        return Answer::Refused(units::WRONG_PHASE);
-    }
-    scan(
+    root_checks::check_phase(roots, units::MARK)?;
+    Ok(scan(
         p,
         table,
         bits,
@@ -124,5 +125,5 @@ pub fn scan_globals(p: usize, table: &[u32], bits: &mut [u64], roots: &mut [u64]
         units::FIRST_GLOBAL,
         units::GLOBALS,
         units::GLOBALS_STATE,
-    )
+    ))
 }

@@ -1,11 +1,10 @@
--- The invariant: the first `done` stacks are done.
-use Prim.Native.Nat.{◌-◌, ◌≤◌}
-use Rattle.model.specs.Memory.{stack_count}
-use Rattle.call_cycle_roots.proofs.Starting.{Grayed}
+-- The invariant: the states before the index are done, the others are as they were.
+use Rattle.std.proofs.Common.{ℕ, ◌≡◌, ◌<◌, ◌≤◌, get_or}
+use Rattle.call_cycle_roots.proofs.Starting.{grayed_state}
 use Rattle.call_cycle_roots.proofs.gray_stacks.Given as goal
 
-abbrev pub invariant-loop-done : goal.invariant-loop-done
-invariant-loop-done l = (l.done ≤ stack_count) × Grayed l.initial.roots l.done l.roots
-
-abbrev pub decreases-loop-done : goal.decreases-loop-done
-decreases-loop-done l = stack_count - l.done
+abbrev pub invariant-loop-state : goal.invariant-loop-state
+invariant-loop-state l = record {
+  done : (k : ℕ) → k < l.state-index → get_or l.state-items k 0 ≡ grayed_state (get_or l.initial.state-items k 0);
+  rest : (k : ℕ) → l.state-index ≤ k → get_or l.state-items k 0 ≡ get_or l.initial.state-items k 0;
+}

@@ -1,18 +1,15 @@
 -- Refused, or every open stack and the globals gray.
-use native.Mathlib.Omega.{arith}
-use lib.ListN.{length-set}
-use Rattle.call_cycle_roots.proofs.Starting.{start_refused, started}
+use mathlib.Core.Path.{sym}
+use Rattle.model.specs.Memory.{lent}
+use Rattle.model.specs.Cycle.{start}
+use Rattle.model.proofs.Outcomes.{not_refused}
+use Rattle.root_checks.proofs.Passed.{call_refused}
 use Rattle.call_cycle_roots.proofs.start.Goals as goal
 
-pub returns-then-roots-ne-OFF : goal.returns-then-roots-ne-OFF
-returns-then-roots-ne-OFF c =
-    let e = c.args in
-    λ p a t b. start_refused p a t b e.roots.now c.if-roots-ne-OFF.true
-
-pub bounds-roots-561-2 : goal.bounds-roots-561-2
-bounds-roots-561-2 c = simp length-set (omega (arith, c.gray_stacks.auto.roots, c.requires))
+pub returns-in_err-check_phase : goal.returns-in_err-check_phase
+unfolding start
+returns-in_err-check_phase c = λ p a t b. call_refused _ _ c.from_residual.ensures.1 (lent p a t b c.args.roots.now) (c.in_err-check_phase.ensures p a t b) _ _
 
 pub returns : goal.returns
-returns c =
-    let e = c.args in
-    λ p a t b. started p a t b e.roots.now c.if-roots-ne-OFF.false c.gray_stacks.ensures
+unfolding start
+returns c = λ p a t b. rw c.gray_stacks.ensures (not_refused _ (lent p a t b c.args.roots.now) _ _ (sym (c.in_ok-check_phase.ensures p a t b)))
