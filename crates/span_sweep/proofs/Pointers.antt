@@ -23,7 +23,9 @@ use Rattle.page_table.specs.declared.Span.{Span}
 use Rattle.bitmap_range.proofs.Runs.{run_append, writes_cong}
 use Rattle.bitmap_range.proofs.Bits.{Fit, bits_ext, bits_at, bits_length, bits_fit}
 use Rattle.bitmap_range.proofs.Parts.{place_from, part_as_bits, part_constant}
+use Rattle.std.specs.Prelude.{Some, None}
 use Rattle.bitmap_search.specs.Freed.{is_freed, next_freed}
+use Rattle.bitmap_search.proofs.Next.{next_some, next_none}
 use Rattle.span_sweep.specs.Needs.{Sweepable, SpanRead, cleared_bits}
 
 -- a run of bits of a part that are as they were
@@ -65,13 +67,22 @@ stays p t b s w = bit p pointer b w && bit p marked b (start_in t s w)
 abbrev pub up_to : ℕ → List ℕ → List ℕ → ℕ → ℕ → List ℕ
 up_to p t b s at = put_bits (page_words * p) pointer (page_words * s) (at - page_words * s) (stays p t b s) b
 
--- .. and the next freed element is at `at`, or there is none
-pub record Cleared (p : ℕ) (t b : List ℕ) (s at : ℕ) (now : List ℕ) : Type 0 where
+-- .. where no element that starts before that word reaches past it
+pub record Cleared (p : ℕ) (t b : List ℕ) (s q : ℕ) (now : List ℕ) : Type 0 where
+  pub low : page_words * s ≤ q
+  pub high : q ≤ page_words * (s + page_count t s)
+  pub is : now ≡ up_to p t b s q
+  pub bound : (w : ℕ) → q ≤ w → w < page_words * (s + page_count t s) → q ≤ start_in t s w
+
+-- .. or where the next freed element starts, if one does
+pub record Next (p : ℕ) (t b : List ℕ) (s at : ℕ) (now : List ℕ) : Type 0 where
   pub low : page_words * s ≤ at
   pub high : at ≤ page_words * (s + page_count t s)
-  pub long : length now ≡ length b
   pub is : now ≡ up_to p t b s at
-  pub next : at < page_words * (s + page_count t s) → is_freed p b at ≡ true
+  pub freed : at < page_words * (s + page_count t s) → is_freed p b at ≡ true
+
+pub cleared_length : {p : ℕ} {t b : List ℕ} {s q : ℕ} {now : List ℕ} → Cleared p t b s q now → length now ≡ length b
+cleared_length {p} {t} {b} {s} {q} C = rw C.is (run_length_lem (page_words * p) pointer (page_words * s) (q - page_words * s) (stays p t b s) b)
 
 module _ (p : ℕ) (t b : List ℕ) (s : ℕ) (S : Sweepable p t b s) (fit : Fit b) where
   inside : page_words * (s + page_count t s) ≤ page_words * p
@@ -152,54 +163,54 @@ module _ (p : ℕ) (t b : List ℕ) (s : ℕ) (S : Sweepable p t b s) (fit : Fit
     up_fit : Fit (up_to p t b s q)
     up_fit = run_fit (page_words * p) pointer (page_words * s) (q - page_words * s) (stays p t b s) b (omega (arith, inside, S.consistent.bits)) fit
 
-    -- on from word q, where no element starts before and reaches past it, to the next freed element
-    module _ (bound : (w : ℕ) → q ≤ w → w < page_words * (s + page_count t s) → q ≤ start_in t s w) where
-      pub on_to_next : (at : ℕ) → at ≡ q + first_below (page_words * (s + page_count t s) - q) (λ k. is_freed p (up_to p t b s q) (q + k)) → Cleared p t b s at (up_to p t b s q)
-      on_to_next at e = record { low = omega arith; high = omega (arith, F.within); long = run_length_lem (page_words * p) pointer (page_words * s) (q - page_words * s) (stays p t b s) b; is = sym same; next = next }
-        where
-          F : First (page_words * (s + page_count t s) - q) (λ k. is_freed p (up_to p t b s q) (q + k)) (first_below (page_words * (s + page_count t s) - q) (λ k. is_freed p (up_to p t b s q) (q + k)))
-          F = first_props (page_words * (s + page_count t s) - q) (λ k. is_freed p (up_to p t b s q) (q + k))
+  -- on to the next freed element
+  on_to_next : (q at : ℕ) (now : List ℕ) → Cleared p t b s q now → at ≡ q + first_below (page_words * (s + page_count t s) - q) (λ k. is_freed p now (q + k)) → Next p t b s at now
+  on_to_next q at now C e = record { low = omega (arith, l); high = omega (arith, h, F.within); is = C.is ∙ sym same; freed = next }
+    where
+      l : page_words * s ≤ q
+      l = C.low
 
-          none : (w : ℕ) → q ≤ w → w < at → is_freed p b w ≡ false
-          none w i j =
-              let z : q + (w - q) ≡ w = omega arith in
-              sym (up_freed w) ∙ (rw z at (F.before (w - q) (omega (arith, e))))
+      h : q ≤ page_words * (s + page_count t s)
+      h = C.high
 
-          next : at < page_words * (s + page_count t s) → is_freed p b at ≡ true
-          next i =
-              sym (up_freed at) ∙ ap (is_freed p (up_to p t b s q)) e ∙ F.holds (omega (arith, e))
+      F : First (page_words * (s + page_count t s) - q) (λ k. is_freed p now (q + k)) (first_below (page_words * (s + page_count t s) - q) (λ k. is_freed p now (q + k)))
+      F = first_props (page_words * (s + page_count t s) - q) (λ k. is_freed p now (q + k))
 
-          same : up_to p t b s at ≡ up_to p t b s q
-          same =
-              run_on q at l (omega (arith, e)) (omega (arith, e, F.within))
-              ∙ run_same (page_words * p) pointer q (at - q) (stays p t b s) (up_to p t b s q) (omega (arith, e, F.within, inside)) up_four up_fit
-              (λ x i j. kept_between q at l (omega (arith, e, F.within)) bound none x i (omega (arith, e)) ∙ sym (up_bit pointer x ∙ rw (within_high (page_words * s) (q - page_words * s) x (omega arith))))
+      as_before : (w : ℕ) → is_freed p b w ≡ is_freed p now w
+      as_before w = sym (up_freed q l h w) ∙ ap (λ x. is_freed p x w) (sym C.is)
 
-  pub begun : (at : ℕ) → at ≡ page_words * s + first_below (page_words * (s + page_count t s) - page_words * s) (λ k. is_freed p b (page_words * s + k)) → Cleared p t b s at b
-  begun at e =
+      none : (w : ℕ) → q ≤ w → w < at → is_freed p b w ≡ false
+      none w i j =
+          let z : q + (w - q) ≡ w = omega arith in
+          as_before w ∙ (rw z at (F.before (w - q) (omega (arith, e))))
+
+      next : at < page_words * (s + page_count t s) → is_freed p b at ≡ true
+      next i = as_before at ∙ ap (is_freed p now) e ∙ F.holds (omega (arith, e))
+
+      same : up_to p t b s at ≡ up_to p t b s q
+      same =
+          run_on q at l (omega (arith, e)) (omega (arith, e, F.within))
+          ∙ run_same (page_words * p) pointer q (at - q) (stays p t b s) (up_to p t b s q) (omega (arith, e, F.within, inside)) (up_four q l h) (up_fit q l h)
+          (λ x i j. kept_between q at l (omega (arith, e, F.within)) C.bound none x i (omega (arith, e)) ∙ sym (up_bit q l h pointer x ∙ rw (within_high (page_words * s) (q - page_words * s) x (omega arith))))
+
+  begun : Cleared p t b s (page_words * s) b
+  begun =
       let z : page_words * s - page_words * s ≡ 0 = omega arith in
       let u : up_to p t b s (page_words * s) ≡ b = rw z (run_none (put_bit (page_words * p) pointer) (page_words * s) (stays p t b s) b) in
-      rw u at (on_to_next (page_words * s) (omega arith) (omega arith) (λ w l m. (start_range t s w l (fits S.consistent.spans s S.starts).words).0) at (rw u e))
+      record { low = omega arith; high = omega arith; is = sym u; bound = λ w l m. (start_range t s w l (fits S.consistent.spans s S.starts).words).0 }
 
   -- the freed element's pointer bits go, and the search goes on behind it
-  pub cleared_on : (at : ℕ) (now then : List ℕ) → Cleared p t b s at now → at < page_words * (s + page_count t s) →
-      then ≡ write_run with_bit (pointer_part * (page_words * p) + at) (element_words t s) (λ i. false) now → (on : ℕ) →
-      on ≡ (at + element_words t s) + first_below (page_words * (s + page_count t s) - (at + element_words t s)) (λ k. is_freed p then ((at + element_words t s) + k)) → Cleared p t b s on then
-  cleared_on at now then C h e on f =
-      let freed = C.next h in
-      let on-end = freed_whole at C.low h freed in
+  cleared_on : (at : ℕ) (now then : List ℕ) → Next p t b s at now → at < page_words * (s + page_count t s) →
+      then ≡ write_run with_bit (pointer_part * (page_words * p) + at) (element_words t s) (λ i. false) now → Cleared p t b s (at + element_words t s) then
+  cleared_on at now then N h e =
+      let freed = N.freed h in
+      let end = freed_whole at N.low h freed in
       let z : at + element_words t s - at ≡ element_words t s = omega arith in
       let u : then ≡ up_to p t b s (at + element_words t s) =
-      rw (e, C.is) (sym (run_on at (at + element_words t s) C.low (omega arith) on-end
-      ∙ rw z (writes_cong (put_bit (page_words * p) pointer) at (element_words t s) (stays p t b s) (λ w. false) (up_to p t b s at) (λ w l m. freed_clear at C.low h freed w l m)
+      rw (e, N.is) (sym (run_on at (at + element_words t s) N.low (omega arith) end
+      ∙ rw z (writes_cong (put_bit (page_words * p) pointer) at (element_words t s) (stays p t b s) (λ w. false) (up_to p t b s at) (λ w l m. freed_clear at N.low h freed w l m)
       ∙ part_constant (page_words * p) pointer at (element_words t s) false (up_to p t b s at)))) in
-      rw u (on_to_next (at + element_words t s) (omega (arith, C.low)) on-end (next_bound at C.low h freed) on (rw u at f))
-
-  pub cleared_all : (at : ℕ) (now : List ℕ) → Cleared p t b s at now → page_words * (s + page_count t s) ≤ at →
-      now ≡ cleared_bits p t b s
-  cleared_all at now C h =
-      let z : at - page_words * s ≡ page_words * page_count t s = omega (arith, C.high) in
-      rw z at C.is
+      record { low = omega (arith, N.low); high = end; is = u; bound = next_bound at N.low h freed }
 
   -- no element of a noscan span has pointer bits
   pub noscan_same : is_scan t s ≡ false → b ≡ cleared_bits p t b s
@@ -221,33 +232,56 @@ pub measured : {p : ℕ} {t b : List ℕ} (span : Span) → SpanRead p t b span 
     end ≡ page_words * (span.start.0 + span.pages) → Measured p t b span.start.0 size end
 measured span R e f = record { sweepable = R.sweepable; words = rw (R.reads.class, R.reads.pages) at e; reach = rw R.reads.pages at f }
 
--- a turn's bounds: the freed element at `at` is whole, and the span's end is that of a block inside the arena
-pub record Turn (p size end at : ℕ) (now : List ℕ) : Type 0 where
+-- what a turn of the loop asks: of the bitmaps and the span's end before the search, and of the freed element at `at` after it
+pub record Asked (p size end q : ℕ) (now : List ℕ) : Type 0 where
   pub tables : Bitmaps p now
   pub some : 0 < size
-  pub whole : at + size ≤ end
+  pub begun : q ≤ end
   pub inside : end ≤ page_words * p
   pub aligned : end % word_bits ≡ 0
 
-module _ {p : ℕ} {t b : List ℕ} {s size end : ℕ} (M : Measured p t b s size end) (fit : Fit b) where
-  pub loop_begun : (first at : ℕ) → first ≡ page_words * s → at ≡ next_freed p b first end → Cleared p t b s at b
-  loop_begun first at f e = begun p t b s M.sweepable fit at (rw (f, M.reach) at e)
+pub record Turn (p size end q at : ℕ) (now : List ℕ) : Type 0 where
+  pub asked : Asked p size end q now
+  pub on : q ≤ at
+  pub whole : at + size ≤ end
 
-  pub loop_turn : (at : ℕ) (now : List ℕ) → Cleared p t b s at now → at < end → Turn p size end at now
-  loop_turn at now C l =
-      let S = M.sweepable in
-      let h = rw M.reach at l in
-      record {
-        tables = record { few = S.consistent.few; bits = C.long ∙ S.consistent.bits };
-        some = rw M.words (fits S.consistent.spans s S.starts).words;
-        whole = omega (arith, M.words, M.reach, freed_whole p t b s S fit at C.low h (C.next h));
-        inside = omega (arith, M.reach, S.consistent.spans.inside s S.starts);
-        aligned = omega (arith, M.reach);
-      }
+module _ {p : ℕ} {t b : List ℕ} {s size end : ℕ} (fit : Fit b) (M : Measured p t b s size end) where
+  pub loop_begun : (first : ℕ) → first ≡ page_words * s → Cleared p t b s first b
+  loop_begun first f = rw f (begun p t b s M.sweepable fit)
 
-  pub loop_next : (at : ℕ) (now then : List ℕ) → Cleared p t b s at now → at < end → then ≡ write_run with_bit (pointer_part * (page_words * p) + at) size (λ i. false) now →
-      (on : ℕ) → on ≡ next_freed p then (at + size) end → Cleared p t b s on then
-  loop_next at now then C l e on f = cleared_on p t b s M.sweepable fit at now then C (rw M.reach at l) (rw M.words at e) on (rw (M.words, M.reach) at f)
+  module _ {q : ℕ} {now : List ℕ} (C : Cleared p t b s q now) where
+    pub loop_asked : Asked p size end q now
+    loop_asked =
+        let S = M.sweepable in
+        record {
+          tables = record { few = S.consistent.few; bits = cleared_length C ∙ S.consistent.bits };
+          some = rw M.words (fits S.consistent.spans s S.starts).words;
+          begun = omega (arith, M.reach, C.high);
+          inside = omega (arith, M.reach, S.consistent.spans.inside s S.starts);
+          aligned = omega (arith, M.reach);
+        }
 
-  pub loop_end : (at : ℕ) (now : List ℕ) → Cleared p t b s at now → end ≤ at → now ≡ cleared_bits p t b s
-  loop_end at now C l = cleared_all p t b s M.sweepable fit at now C (rw M.reach at l)
+    pub loop_end : None ≡ next_freed p now q end → now ≡ cleared_bits p t b s
+    loop_end e =
+        let h = C.high in
+        let f : first_below (page_words * (s + page_count t s) - q) (λ k. is_freed p now (q + k)) ≡ page_words * (s + page_count t s) - q =
+        rw M.reach at (next_none p now q end e) in
+        let N = on_to_next p t b s M.sweepable fit q (page_words * (s + page_count t s)) now C (omega (arith, f)) in
+        let z : page_words * (s + page_count t s) - page_words * s ≡ page_words * page_count t s = omega arith in
+        rw z at N.is
+
+    module _ {at : ℕ} (e : Some at ≡ next_freed p now q end) where
+      there : (at ≡ q + first_below (end - q) (λ k. is_freed p now (q + k))) × (first_below (end - q) (λ k. is_freed p now (q + k)) < end - q)
+      there = next_some p now q end e
+
+      next : Next p t b s at now
+      next = on_to_next p t b s M.sweepable fit q at now C (rw M.reach at there.0)
+
+      below : at < page_words * (s + page_count t s)
+      below = omega (arith, there, M.reach)
+
+      pub loop_turn : Turn p size end q at now
+      loop_turn = record { asked = loop_asked; on = omega (arith, there); whole = omega (arith, M.words, M.reach, freed_whole p t b s M.sweepable fit at next.low below (next.freed below)) }
+
+      pub loop_next : {then : List ℕ} → then ≡ write_run with_bit (pointer_part * (page_words * p) + at) size (λ i. false) now → Cleared p t b s (at + size) then
+      loop_next {then} f = rw M.words (cleared_on p t b s M.sweepable fit at now then next below (rw M.words at f))

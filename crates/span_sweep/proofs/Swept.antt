@@ -17,7 +17,9 @@ use Rattle.model.proofs.Tests.{is_true}
 use Rattle.model.proofs.Spans.{start_in, start_is, at_home, fits}
 use Rattle.model.specs.Facts.{bit}
 use Rattle.bitmap_range.proofs.Parts.{swept_parts, part_count}
-use Rattle.span_sweep.specs.Needs.{Sweepable, SweepsSpan, cleared_bits}
+use Rattle.bitmap_range.specs.Moved.{moved_words}
+use Rattle.page_table.specs.declared.Span.{Span}
+use Rattle.span_sweep.specs.Needs.{Sweepable, SpanRead, SweepsSpan, cleared_bits}
 use Rattle.span_sweep.proofs.Counts.{count_elements, count_split, none_counted}
 use Rattle.span_sweep.proofs.Bounds.{bounds}
 use Rattle.span_sweep.proofs.Pointers.{stays}
@@ -112,3 +114,22 @@ module _ (p : ℕ) (t b : List ℕ) (s : ℕ) (S : Sweepable p t b s) where
   span_kept {all} {kept} {table} {bits} C d f g a roots =
       let z : nothing_left (lent p a t b roots) s ≡ false = C.left a roots ∙ ne_eqb kept 0 d in
       record { freed = C.freed a roots; returned = rw z; table = rw z f; bits = g a roots }
+
+-- The same of a span as it is read, by what the counts answer, what is left once it is cleared, and what is left of that once the marks are moved.
+module _ {p : ℕ} {t b : List ℕ} {span : Span} (R : SpanRead p t b span) {first marks all kept : ℕ} (f : first ≡ page_blocks * span.start.0) (m : marks ≡ marked_part * (page_blocks * p) + first)
+    (e : all ≡ count_below (page_blocks * span.pages * word_bits) (λ k. bit_at b (first * word_bits + k)))
+    (g : kept ≡ count_below (page_blocks * span.pages * word_bits) (λ k. bit_at b (marks * word_bits + k))) where
+  pub counts : SpanCounts p t b span.start.0 R.sweepable all kept
+  counts = counted p t b span.start.0 R.sweepable all kept span.pages first marks R.reads.pages f m e g
+
+  module _ {c bits : List ℕ} (cleared : c ≡ cleared_bits p t b span.start.0) (moved : bits ≡ moved_words first marks (page_blocks * span.pages) c) where
+    swept : (a roots : List ℕ) → bits ≡ swept_bits (lent p a t b roots) span.start.0
+    swept = swept_words p t b span.start.0 R.sweepable first marks f m c R.reads.pages cleared moved
+
+    pub sweep_frees : {table : List ℕ} → kept ≡ 0 → table ≡ put_pages span.start.0 span.pages (λ g. free_page) t →
+        (a roots : List ℕ) → SweepsSpan (lent p a t b roots) span.start.0 (record { freed = all - kept; returned = span.pages }) table bits
+    sweep_frees {table} z h = span_freed p t b span.start.0 R.sweepable counts z R.reads.pages h swept
+
+    pub sweep_keeps : {table : List ℕ} → kept ≢ 0 → table ≡ put_page span.start.0 (span_page span.start.0 (page_count t span.start.0) (kind_at t span.start.0) span.start.0) t →
+        (a roots : List ℕ) → SweepsSpan (lent p a t b roots) span.start.0 (record { freed = all - kept; returned = 0 }) table bits
+    sweep_keeps {table} d h = span_kept p t b span.start.0 R.sweepable counts d h swept

@@ -15,8 +15,7 @@ fn clear_freed(p: usize, bits: &mut [u64], span: Span)
     requires { LentSpan p bits.old span }
     ensures { ClearsFreed p (exclusive bits) span }
 {
-    let scan = span.scan;
-    if !scan {
+    if !span.scan {
         return;
     }
     let start = span.start.0;
@@ -25,12 +24,10 @@ fn clear_freed(p: usize, bits: &mut [u64], span: Span)
     let pointers = units::POINTER_PART * (units::PAGE_WORDS * p);
     let after = start + n;
     let to = Page(after).first_word();
-    let end = to.0;
-    let mut at = bitmap_search::next_freed(p, bits, span.start.first_word(), to).0;
-    while at < end {
-        bitmap_range::clear_range(bits, pointers + at, size);
-        let next = at + size;
-        at = bitmap_search::next_freed(p, bits, Word(next), to).0;
+    let mut from = span.start.first_word();
+    while let Some(freed) = bitmap_search::next_freed(p, bits, from, to) {
+        bitmap_range::clear_range(bits, pointers + freed.0, size);
+        from = Word(freed.0 + size);
     }
 }
 
@@ -61,13 +58,10 @@ pub fn sweep(p: usize, table: &mut [u32], bits: &mut [u64], span: Span) -> SpanS
     if kept == 0 {
         page_entries::free_span(table, span.start, n);
         return SpanSwept {
-            freed: freed,
+            freed,
             returned: n as u64,
         };
     }
     page_entries::make_swept(table, span);
-    SpanSwept {
-        freed: freed,
-        returned: 0,
-    }
+    SpanSwept { freed, returned: 0 }
 }

@@ -1,11 +1,13 @@
--- The invariant: below word `at`, the next freed element, the pointer bits are the definition's, by any table that the span is read from.
+-- The invariant: below word `from`, past which no element before it reaches, the pointer bits are the definition's, by any table that the span is read from.
 use Prim.Native.Nat.{ℕ, ◌-◌}
 use mathlib.Core.List.{List}
+use Rattle.bitmap_range.proofs.Bits.{Fit}
 use Rattle.span_sweep.proofs.Pointers.{Cleared, Measured}
 use Rattle.span_sweep.proofs.clear_freed.Given as goal
 
-abbrev pub invariant-loop-at : goal.invariant-loop-at
-invariant-loop-at l = (t : List ℕ) → Measured l.p t l.initial.bits l.start l.size l.end → Cleared l.p t l.initial.bits l.start l.at l.bits
+abbrev pub invariant-loop-freed : goal.invariant-loop-freed
+invariant-loop-freed l =
+    Fit l.initial.bits × ((t : List ℕ) → Measured l.p t l.initial.bits l.start l.size l.to.0 → Cleared l.p t l.initial.bits l.start l.from.0 l.bits)
 
-abbrev pub decreases-loop-at : goal.decreases-loop-at
-decreases-loop-at l = l.end - l.at
+abbrev pub decreases-loop-freed : goal.decreases-loop-freed
+decreases-loop-freed l = l.to.0 - l.from.0
