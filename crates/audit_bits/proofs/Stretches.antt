@@ -7,6 +7,9 @@ use mathlib.Core.Path.{◌≡◌, refl, ◌∙◌, ap}
 use native.Mathlib.Omega.{arith}
 use lib.Dec.{T, eqb, ltb}
 use borrow.Author.Tests.{ltb-true, ltb-false, eqb-true, eqb-false, ne_eqb}
+use Rattle.std.specs.Prelude.{Option, Some, None, if◌then◌else◌}
+use Rattle.std.specs.Option.{is_some}
+use Rattle.bitmap.specs.Search.{found}
 use Rattle.model.specs.Memory.{page_words, word_bits, page_blocks, mark, sweep}
 use Rattle.model.specs.Bounded.{all_below, first_below}
 use Rattle.model.specs.Bitmaps.{Part, bit_at, allocated, marked, gray, pointer}
@@ -21,7 +24,7 @@ use Rattle.page_table.specs.declared.Span.{Span}
 use Rattle.audit_bits.specs.Needs.{Phased, SpanFits}
 use Rattle.audit_bits.specs.Rules.{bare, span_rule, KeepsRules}
 use Rattle.audit_bits.specs.Words.{GoodBits, SetBetween}
-use Rattle.audit_pages.proofs.Stretches.{stretch}
+use Rattle.audit_pages.proofs.Stretches.{stretch, Edge, next, spans_more}
 use Rattle.audit_bits.proofs.Words.{WordBits, GoodWords, GoodStretch, Used}
 use Rattle.audit_bits.proofs.SpanWords.{rule_at, span_words, words_span, bare_word, word_bare}
 
@@ -135,29 +138,30 @@ module _ {P : ℕ} {t : List ℕ} (F : Spans P t) (b : List ℕ) where
       let h = rw u.2 at (in_span F w ((A w).element u.1).lies.used) in
       (w, h.0, h.1, rw (← bit_in_lem (page_words * P) allocated b w (bit_inside (page_words * P) allocated b w u.1)) u.1)
 
--- the first set bit stands before the end
-set_first : (b : List ℕ) (from to r : ℕ) → from ≤ to → r ≡ from + first_below (to - from) (λ k. bit_at b (from + k)) → T (ltb r to) ↔ SetBetween b from to
-set_first b from to r l e = (there, back)
+-- a search for the first set bit finds one
+set_first : (b : List ℕ) (from to : ℕ) → from ≤ to → T (is_some (found from (to - from) (λ k. bit_at b (from + k)))) ↔ SetBetween b from to
+set_first b from to l = go (ltb first n) refl
   where
-    there : T (ltb r to) → SetBetween b from to
-    there x =
-        let f = first_props (to - from) (λ k. bit_at b (from + k)) in
-        let m = ltb-true r to (of_true _ x) in
-        (r, omega arith, m, is_true _ (ap (bit_at b) e ∙ f.holds (omega arith)))
+    n : ℕ
+    n = to - from
 
-    back : SetBetween b from to → T (ltb r to)
-    back (w, m, n, x) = go (ltb r to) refl
-      where
-        go : (c : Bool) → ltb r to ≡ c → T c
-        go true p = tt
-        go false p =
-            let f = first_props (to - from) (λ k. bit_at b (from + k)) in
-            let z : from + (w - from) ≡ w = omega arith in
-            clash (bit_at b w) (of_true _ x) (rw z at (f.before (w - from) (omega (arith, ltb-false r to p))))
+    first : ℕ
+    first = first_below n (λ k. bit_at b (from + k))
 
-pub set_found : (b : List ℕ) (from to first last r : ℕ) → first ≡ from → last ≡ to → from ≤ to → r ≡ first + first_below (last - first) (λ k. bit_at b (first + k)) →
-    T (ltb r last) ↔ SetBetween b from to
-set_found b from to first last r p q l e = rw q (set_first b from to r l (rw (p, q) at e))
+    go : (c : Bool) → ltb first n ≡ c → T (is_some (if c then Some (from + first) else None)) ↔ SetBetween b from to
+    go true p =
+        let m = ltb-true first n p in
+        (λ _. (from + first, omega arith, omega arith, is_true _ ((first_props n (λ k. bit_at b (from + k))).holds m)), λ _. tt)
+    go false p = (
+      λ x. absurd x,
+      λ (w, i, m, x).
+          let z : from + (w - from) ≡ w = omega arith in
+          clash (bit_at b w) (of_true _ x) (rw z at ((first_props n (λ k. bit_at b (from + k))).before (w - from) (omega (arith, ltb-false first n p)))),
+    )
+
+pub set_found : (b : List ℕ) (from to first last : ℕ) (r : Option ℕ) (u : Bool) → first ≡ from → last ≡ to → from ≤ to →
+    r ≡ found first (last - first) (λ k. bit_at b (first + k)) → u ≡ is_some r → T u ↔ SetBetween b from to
+set_found b from to first last r u p q l e f = rw (f, e, p, q) (set_first b from to l)
 
 -- a free page without bits is as it should be, and a span that keeps its rules; and back
 pub free_stretch : {P phase : ℕ} {t b : List ℕ} {g : ℕ} → owner t g ≡ 0 → GoodWords P phase t b (page_words * g) (page_words * (g + stretch t g)) → GoodStretch P phase t b g
@@ -169,3 +173,13 @@ module _ {P phase : ℕ} {t b : List ℕ} {g : ℕ} {x : Span} (R : Reads t g x)
 
   pub stretch_kept : ((w : ℕ) → WordBits P phase t b w) → Used P t b g → KeepsRules P phase b x
   stretch_kept A U = ((span_good R F legal i _ refl).1 (λ w _ _. A w), rw (R.start, R.pages) (used_set F b A g i U))
+
+-- what is known where the pass has come to page g: a span or a free page begins there, or g is the end; the words before it have the bits that the
+-- audit allows, and each span before it has an allocated word
+abbrev pub Passed : ℕ → ℕ → List ℕ → List ℕ → ℕ → Type 0
+Passed P phase t b g = (g ≤ P) × Edge t g × GoodWords P phase t b 0 (page_words * g) × ((s : ℕ) → s < g → Used P t b s)
+
+pub onward : {P phase : ℕ} {t b : List ℕ} {g : ℕ} → Spans P t → g < P → Passed P phase t b g → (n : ℕ) → n ≡ stretch t g → GoodStretch P phase t b g → Passed P phase t b (g + n)
+onward {P} {phase} {t} {b} {g} F l (fit, edge, words, used) n e G =
+    let N = next F g l edge in
+    rw e (N.inside, N.edge, good_more g _ words G.words, spans_more F _ g edge used G.used)

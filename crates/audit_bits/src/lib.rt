@@ -36,14 +36,16 @@ fn flag(all: bool) -> u64
     if all { ALL_BITS } else { 0 }
 }
 
-// The first `left` words of a block; all of them where there are not so many.
+// The first `left` words of a block; all of them where there are not so many. The library's checked
+// shift is no plainer: it counts in u32, so that `left` were converted first.
 fn below(left: usize) -> u64
     ensures { (j : ℕ) → j < word_bits → on result j ≡ (j <? left) }
 {
     if left < WORD_BITS {
-        return !(ALL_BITS << left);
+        !(ALL_BITS << left)
+    } else {
+        ALL_BITS
     }
-    ALL_BITS
 }
 
 // The words at which elements start in a block, if the first of them is word `off`, or lies behind
@@ -51,20 +53,7 @@ fn below(left: usize) -> u64
 fn starts_in(starts: u64, off: usize) -> u64
     ensures { (j : ℕ) → j < word_bits → on result j ≡ (off ≤? j && on starts (j - off)) }
 {
-    if off < WORD_BITS {
-        return starts << off;
-    }
-    0
-}
-
-// What is left of `left` words behind a block.
-fn behind(left: usize) -> usize
-    ensures { result ≡ left - word_bits }
-{
-    if left < WORD_BITS {
-        return 0;
-    }
-    left - WORD_BITS
+    if off < WORD_BITS { starts << off } else { 0 }
 }
 
 // Block `at` has no bit in any part.
@@ -108,11 +97,9 @@ fn block_ok(
     let first = starts_in(starts, off) & inside;
     let m = bits[MARKED_PART * part + at];
     let g = bits[GRAY_PART * part + at];
-    if !colours_ok(a, m, g, first, marks, grays) {
-        return false;
-    }
     let q = bits[POINTER_PART * part + at];
-    pointers_ok(a & scans, q, first, inside & scans, before)
+    colours_ok(a, m, g, first, marks, grays)
+        && pointers_ok(a & scans, q, first, inside & scans, before)
 }
 
 // The bits of the span, whose elements have `size` words each and `held` together, keep the rules.
@@ -127,20 +114,17 @@ fn blocks_ok(p: usize, bits: &[u64], span: Span, size: usize, held: usize, allow
     let first = span.start.first_block();
     let pointers = POINTER_PART * (PAGE_BLOCKS * p) + first;
     let blocks = PAGE_BLOCKS * count;
-    let mut k = 0;
     // as block_ok says
     let mut off = 0;
     let mut left = held;
     let mut before = 0;
-    while k < blocks {
-        let ok = block_ok(p, bits, first + k, mask, off, left, before, allowed);
-        before = bits[pointers + k] >> 63;
-        off = next_start(size, rest, off);
-        left = behind(left);
-        k += 1;
-        if !ok {
+    for k in 0..blocks {
+        if !block_ok(p, bits, first + k, mask, off, left, before, allowed) {
             return false;
         }
+        before = bits[pointers + k] >> 63;
+        off = next_start(size, rest, off);
+        left = left.saturating_sub(WORD_BITS);
     }
     true
 }
@@ -151,11 +135,8 @@ fn free_page_ok(p: usize, bits: &[u64], g: Page) -> bool
     ensures { result ≡ all_below (word_bits * page_blocks) (λ o. bare p bits.now (page_words * g.0 + o)) }
 {
     let first = g.first_block();
-    let mut k = 0;
-    while k < PAGE_BLOCKS {
-        let at = first + k;
-        k += 1;
-        if !empty(p, bits, at) {
+    for k in 0..PAGE_BLOCKS {
+        if !empty(p, bits, first + k) {
             return false;
         }
     }
@@ -166,23 +147,14 @@ fn free_page_ok(p: usize, bits: &[u64], g: Page) -> bool
 fn marks_stand(phase: u64, unswept: bool) -> bool
     ensures { result ≡ marks_stand phase unswept }
 {
-    if phase == MARK {
-        return true;
-    }
-    if phase == SWEEP {
-        return unswept;
-    }
-    false
+    phase == MARK || phase == SWEEP && unswept
 }
 
 // Gray bits may stand in a span: in phase mark, in a scan span.
 fn grays_stand(phase: u64, scan: bool) -> bool
     ensures { result ≡ (phase == mark && scan) }
 {
-    if phase == MARK {
-        return scan;
-    }
-    false
+    phase == MARK && scan
 }
 
 // The bits of the span keep the rules.
@@ -212,7 +184,7 @@ fn occupied(p: usize, bits: &[u64], span: Span) -> bool
     let end = span.start.0 + span.pages;
     let from = span.start.first_word().0;
     let to = Page(end).first_word().0;
-    first_set(bits, from, to) < to
+    first_set(bits, from, to).is_some()
 }
 
 // The bits of the span keep the rules, and it has an allocated element.
@@ -220,10 +192,7 @@ fn span_ok(p: usize, bits: &[u64], phase: u64, span: Span) -> bool
     requires { Bitmaps p bits.now × SpanFits p span }
     ensures { T result ↔ KeepsRules p phase bits.now span }
 {
-    if !span_bits_ok(p, bits, phase, span) {
-        return false;
-    }
-    occupied(p, bits, span)
+    span_bits_ok(p, bits, phase, span) && occupied(p, bits, span)
 }
 
 // The audit's clauses about bits, also where they depend on the phase, and each span has an allocated
@@ -233,6 +202,9 @@ pub fn bits_ok(p: usize, table: &[u32], bits: &[u64], phase: u64) -> bool
     ensures { T result ↔ GoodBits p phase table.now bits.now }
 {
     let mut g = 0;
+    // Not a for: a turn passes a free page or a whole span. Each of the audit's three passes is written
+    // out: one walk with closures for a free page and for a span would be as long at every use, since
+    // they need the buffers, and no plainer.
     while g < p {
         let at = Page(g);
         if owner(table, at) == 0 {

@@ -8,5 +8,5 @@ use Rattle.audit_bits.proofs.below.Goals as goal
 pub returns-then-left-lt-WORD_BITS : goal.returns-then-left-lt-WORD_BITS
 returns-then-left-lt-WORD_BITS c = on_below c.args.left
 
-pub returns : goal.returns
-returns c = λ j l. on_all j l ∙ sym (lt-ltb j c.args.left (omega arith))
+pub returns-else-left-lt-WORD_BITS : goal.returns-else-left-lt-WORD_BITS
+returns-else-left-lt-WORD_BITS c = λ j l. on_all j l ∙ sym (lt-ltb j c.args.left (omega arith))

@@ -6,4 +6,4 @@ use Rattle.audit_bits.proofs.empty.Goals as goal
 pub returns : goal.returns
 returns c =
     let a = c.args in
-    empty_block a.p a.bits.now a.at (omega arith) (λ i. omega (arith, c.shared_slice_known-4-1.given i))
+    empty_block a.p a.bits.now a.at (omega arith) (λ i. omega (arith, c.type_inv.bits i))

@@ -1,12 +1,9 @@
 -- The invariant: k blocks of the page have no bit.
-use Prim.Native.Nat.{ℕ, ◌+◌, ◌-◌, ◌*◌, ◌<◌, ◌≤◌}
-use Rattle.model.specs.Memory.{page_blocks, word_bits}
+use Prim.Native.Nat.{ℕ, ◌+◌, ◌*◌, ◌<◌}
+use Rattle.model.specs.Memory.{word_bits}
 use lib.Dec.{T}
 use Rattle.audit_bits.specs.Rules.{bare}
 use Rattle.audit_bits.proofs.free_page_ok.Given as goal
 
 abbrev pub invariant-loop-k : goal.invariant-loop-k
-invariant-loop-k l = (l.k ≤ page_blocks) × ((o : ℕ) → o < word_bits * l.k → T (bare l.p l.bits (word_bits * l.first + o)))
-
-abbrev pub decreases-loop-k : goal.decreases-loop-k
-decreases-loop-k l = page_blocks - l.k
+invariant-loop-k l = ((o : ℕ) → o < word_bits * l.k → T (bare l.p l.bits (word_bits * l.first + o)))

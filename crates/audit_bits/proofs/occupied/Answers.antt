@@ -3,8 +3,5 @@ use native.Mathlib.Omega.{arith}
 use Rattle.audit_bits.proofs.Stretches.{set_found}
 use Rattle.audit_bits.proofs.occupied.Goals as goal
 
-pub first_set-requires : goal.first_set-requires
-first_set-requires c = omega (arith, c.first_word-to.ensures, c.first_word-from.ensures)
-
 pub returns : goal.returns
-returns c = set_found _ _ _ _ _ _ c.first_word-from.ensures c.first_word-to.ensures (omega arith) c.first_set.ensures
+returns c = set_found _ _ _ _ _ _ _ c.first_word-from.ensures c.first_word-to.ensures (omega arith) c.first_set.ensures c.is_some.ensures
