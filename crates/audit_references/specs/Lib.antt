@@ -1,2 +1,2 @@
-pub mod Promises
 pub mod References
+pub mod Kept

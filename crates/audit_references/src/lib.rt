@@ -7,12 +7,10 @@
 #![tactic(auto)]
 
 ghost use Rattle.std.specs.Prelude.{◌≡◌, ◌↔◌, ◌*◌, ◌<◌, ◌≤◌, T, length};
-ghost use Rattle.model.specs.Memory.{max_pages, page_words, root_words, first_global};
-ghost use Rattle.model.specs.Facts.{Reference, States, kept_at};
-ghost use Rattle.model.specs.Lent.{Mapped, RootReferences, Told};
-ghost use Rattle.model.specs.Promises.{at_entry, shared};
-ghost use Rattle.audit_references.specs.Promises.{ReadableRoots};
-ghost use Rattle.audit_references.specs.References.{RootRange, kept_from};
+ghost use Rattle.model.specs.Memory.{max_pages, page_words, first_global};
+ghost use Rattle.model.specs.Facts.{States};
+ghost use Rattle.model.specs.Lent.{Roots, Mapped, Told};
+ghost use Rattle.audit_references.specs.References.{kept_from};
 
 use units::{
     Address, CLOSED, FIRST_GLOBAL, FIRST_STATE, MARKED_PART, PAGE_WORDS, SLOTS, STACKS, Word,
@@ -30,58 +28,71 @@ fn kept_from(p: usize, unswept: bool) -> usize
     }
 }
 
-// Word w of the arena starts a kept element. `swept` says that no span is unswept.
-fn kept(p: usize, table: &[u32], bits: &[u64], swept: bool, w: Word) -> bool
-    requires { Mapped p table.now bits.now × Told swept table.now × (w.0 < page_words * p) }
-    ensures { result ≡ kept_at p table.now bits.now w.0 }
-{
-    let at = w.0;
-    if swept {
-        return bitmap::test(bits, at);
-    }
-    let span = page_table::span_with_word(table, w);
-    let from = kept_from(p, span.unswept);
-    bitmap::test(bits, from + at)
+// What tells which elements are kept: the page table and the bitmaps of so many pages, and whether it is
+// known that no span is unswept.
+#[derive(Clone, Copy)]
+pub struct Kept<'a> {
+    pub pages: usize,
+    pub table: &'a [u32],
+    pub bits: &'a [u64],
+    pub swept: bool,
+    ghost mapped: { Mapped pages table.now bits.now },
+    ghost told: { Told swept table.now },
 }
 
-// The value is nil or the address of a kept element.
-#[tactic(auto, using(crate::proofs::References::kept_inside))]
-pub fn is_reference(p: usize, table: &[u32], bits: &[u64], swept: bool, v: Address) -> bool
-    requires { Mapped p table.now bits.now × Told swept table.now }
-    ensures { T result ↔ Reference p table.now bits.now v.0 }
-{
-    let w = v.word();
-    v.is_nil() || v.names_word() && w.0 < PAGE_WORDS * p && kept(p, table, bits, swept, w)
-}
+impl Kept<'_> {
+    ghost use Rattle.audit_references.specs.Kept.{contains, IsReference, Range, RootReferences};
 
-// These words of the roots are references.
-fn range_ok(p: usize, table: &[u32], bits: &[u64], words: &[u64], swept: bool) -> bool
-    requires { Mapped p table.now bits.now × Told swept table.now }
-    ensures { T result ↔ at_entry (RootRange p) (shared table) (shared bits) (shared words) 0 (length words.now) }
-{
-    words.iter().all(|value| is_reference(p, table, bits, swept, Address(*value)))
-}
-
-// So are the slots of every stack. Those of a closed one are nil.
-fn slots_ok(p: usize, table: &[u32], bits: &[u64], roots: &[u64], swept: bool) -> bool
-    requires { ReadableRoots swept p table.now bits.now roots.now × States roots.now }
-    ensures { T result ↔ at_entry (RootRange p) (shared table) (shared bits) (shared roots) 0 first_global }
-{
-    for s in 0..STACKS {
-        let first = SLOTS * s;
-        let state = roots[FIRST_STATE + s];
-        if state != CLOSED && !range_ok(p, table, bits, &roots[first..first + SLOTS], swept) {
-            return false;
+    // Word w of the arena starts a kept element.
+    fn contains(self, w: Word) -> bool
+        requires { w.0 < page_words * self.pages }
+        ensures { result ≡ contains self.entry w.0 }
+    {
+        let at = w.0;
+        if self.swept {
+            return bitmap::test(self.bits, at);
         }
+        let span = page_table::span_with_word(self.table, w);
+        let from = kept_from(self.pages, span.unswept);
+        bitmap::test(self.bits, from + at)
     }
-    true
-}
 
-// So is every slot and every global.
-pub fn roots_ok(p: usize, table: &[u32], bits: &[u64], roots: &[u64], swept: bool) -> bool
-    requires { ReadableRoots swept p table.now bits.now roots.now × States roots.now }
-    ensures { T result ↔ at_entry (RootReferences p) (shared table) (shared bits) (shared roots) }
-{
-    slots_ok(p, table, bits, roots, swept)
-        && range_ok(p, table, bits, &roots[FIRST_GLOBAL..FIRST_STATE], swept)
+    // The value is nil or the address of a kept element.
+    #[tactic(auto, using(crate::proofs::References::kept_inside))]
+    pub fn is_reference(self, v: Address) -> bool
+        ensures { T result ↔ IsReference self.entry v.0 }
+    {
+        let w = v.word();
+        v.is_nil() || v.names_word() && w.0 < PAGE_WORDS * self.pages && self.contains(w)
+    }
+
+    // These words of the roots are references.
+    fn words_ok(self, words: &[u64]) -> bool
+        ensures { T result ↔ Range self.entry words.now 0 (length words.now) }
+    {
+        words.iter().all(|value| self.is_reference(Address(*value)))
+    }
+
+    // So are the slots of every stack. Those of a closed one are nil.
+    fn slots_ok(self, roots: &[u64]) -> bool
+        requires { Roots roots.now × States roots.now }
+        ensures { T result ↔ Range self.entry roots.now 0 first_global }
+    {
+        for s in 0..STACKS {
+            let first = SLOTS * s;
+            let state = roots[FIRST_STATE + s];
+            if state != CLOSED && !self.words_ok(&roots[first..first + SLOTS]) {
+                return false;
+            }
+        }
+        true
+    }
+
+    // So is every slot and every global.
+    pub fn roots_ok(self, roots: &[u64]) -> bool
+        requires { Roots roots.now × States roots.now }
+        ensures { T result ↔ RootReferences self.entry roots.now }
+    {
+        self.slots_ok(roots) && self.words_ok(&roots[FIRST_GLOBAL..FIRST_STATE])
+    }
 }
