@@ -22,7 +22,7 @@ use Rattle.model.proofs.Facts.{no_pointer}
 use Rattle.page_table.specs.Span.{Reads}
 use Rattle.page_table.specs.declared.Span.{Span}
 use Rattle.audit_references.specs.References.{kept_from}
-use Rattle.audit_references.proofs.References.{kept_is, from_bound}
+use Rattle.audit_references.proofs.References.{kept_is}
 use Rattle.audit_words.specs.Contents.{Filled, ElementAt, Pointers, SpanContents, Contents, Searched}
 
 -- the kept elements from word `first` on whose bit stands below `at` have references in their pointer words
@@ -30,15 +30,16 @@ abbrev pub ContentsBelow : ℕ → List ℕ → List ℕ → List ℕ → ℕ �
 ContentsBelow p a t b first n from end at =
     (w : ℕ) → first ≤ w → from + w < at → from + w < end → T (kept_at p t b w) → Pointers p a t b w n
 
+-- the bits of kept elements start at most behind the allocated ones
+from_bound : (p : ℕ) (unswept : Bool) → kept_from p unswept ≤ page_words * p
+from_bound p true = omega arith
+from_bound p false = omega arith
+
 -- the pointer bit of word f of an element
 pub pointer_is : (p : ℕ) (b : List ℕ) (w f at : ℕ) → at ≡ pointer_part * (page_words * p) + w + f → w + f < page_words * p → bit_at b at ≡ bit p pointer b (w + f)
 pointer_is p b w f at e l =
     let z : at ≡ pointer_part * (page_words * p) + (w + f) = omega arith in
     rw z (sym (bit_in_lem (page_words * p) pointer b (w + f) l))
-
--- where the first set bit from `at` on stands
-pub found_range : (b : List ℕ) (at end j : ℕ) → j ≡ at + first_below (end - at) (λ k. bit_at b (at + k)) → at < end → (at ≤ j) × (j ≤ end)
-found_range b at end j e l = (omega arith, omega (arith, (first_props (end - at) (λ k. bit_at b (at + k))).within))
 
 module _ (p : ℕ) (a t b : List ℕ) (F : Filled p a t b) where
   -- one element
@@ -98,7 +99,7 @@ module _ (p : ℕ) (a t b : List ℕ) (F : Filled p a t b) where
 
     -- the first bit from `at` on is j, or `end`
     module _ (at j : ℕ) (low : from + first ≤ at) (found : j ≡ at + first_below (end - at) (λ k. bit_at b (at + k))) (h : ContentsBelow p a t b first n from end at) where
-      passed : ContentsBelow p a t b first n from end j
+      pub passed : ContentsBelow p a t b first n from end j
       passed w l m q x = go (ltb (from + w) at) refl
         where
           go : (c : Bool) → ltb (from + w) at ≡ c → Pointers p a t b w n

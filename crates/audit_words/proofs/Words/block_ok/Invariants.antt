@@ -4,10 +4,10 @@ use Rattle.audit_words.proofs.Blocks.{BitsTaken}
 use lib.Count.{count_trailing_zeros}
 use mathlib.Core.Path.{◌≡◌}
 use Prim.Native.Nat.{◌-◌, ◌*◌, ◌^◌, ◌<◌}
-use Rattle.audit_words.proofs.block_ok.Given as goal
+use Rattle.audit_words.proofs.Words.block_ok.Given as goal
 
 abbrev pub invariant-loop-left : goal.invariant-loop-left
-invariant-loop-left l = (l.first ≡ word_bits * l.at) × (l.left < 2 ^ 64) × BitsTaken l.p l.arena l.table l.bits l.at l.pointers l.left
+invariant-loop-left l = (l.first ≡ word_bits * l.at) × (l.left < 2 ^ 64) × BitsTaken l.self.kept.pages l.self.arena.now l.self.kept.table.now l.self.kept.bits.now l.at l.pointers l.left
 
 abbrev pub decreases-loop-left : goal.decreases-loop-left
 decreases-loop-left l = 64 - count_trailing_zeros 64 l.left

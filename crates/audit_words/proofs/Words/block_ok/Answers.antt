@@ -7,7 +7,7 @@ use lib.Count.{count_trailing_zeros}
 use mathlib.Core.Bool.{false}
 use native.Mathlib.Omega.{arith}
 use borrow.Author.Rules.{rules}
-use Rattle.audit_words.proofs.block_ok.Goals as goal
+use Rattle.audit_words.proofs.Words.block_ok.Goals as goal
 
 pub loop-left-init : goal.loop-left-init
 loop-left-init c = (search rules, search rules, taken_none _ _ _ _ _ _)
@@ -17,12 +17,6 @@ overflow_cast-j c = let l = low _ c.loop-left.invariant.1 c.loop-left-test.true 
 
 pub overflow_add-value : goal.overflow_add-value
 overflow_add-value c = let l = low _ c.loop-left.invariant.1 c.loop-left-test.true in omega arith
-
-pub offset_bounds-arena-first : goal.offset_bounds-arena-first
-offset_bounds-arena-first c = let l = low _ c.loop-left.invariant.1 c.loop-left-test.true in omega arith
-
-pub bounds-arena-first : goal.bounds-arena-first
-bounds-arena-first c = let l = low _ c.loop-left.invariant.1 c.loop-left-test.true in omega arith
 
 pub overflow_shl-left : goal.overflow_shl-left
 overflow_shl-left c = let l = low _ c.loop-left.invariant.1 c.loop-left-test.true in omega arith
