@@ -12,6 +12,8 @@ ghost use Rattle.model.specs.Facts.{Sized};
 ghost use Rattle.model.specs.Refusals.{refused};
 ghost use Rattle.model.specs.Promises.{SizedHeap, found, shared};
 
+use audit_references::Kept;
+use audit_words::Words;
 use model::Refusal;
 use units::{BITMAP_WORDS, ENTRY_NUMBERS, MAX_PAGES, PAGE_WORDS, PHASE, ROOT_WORDS, SWEEP};
 
@@ -38,8 +40,9 @@ fn buffers_ok(p: u64, arena: &[u64], table: &[u32], bits: &[u64], roots: &[u64])
     roots.len() == ROOT_WORDS
 }
 
-// The audit says yes.
-fn audit(p: usize, arena: &[u64], table: &[u32], bits: &[u64], roots: &[u64]) -> bool
+// The audit says yes. The arena, the page table and the bitmaps are lent for one time, since one value
+// has them for a while.
+fn audit<'a>(p: usize, arena: &'a [u64], table: &'a [u32], bits: &'a [u64], roots: &[u64]) -> bool
     requires { SizedHeap p arena.now table.now bits.now roots.now }
     ensures { result ≡ audit (found p (shared arena) (shared table) (shared bits) (shared roots)) }
 {
@@ -54,10 +57,17 @@ fn audit(p: usize, arena: &[u64], table: &[u32], bits: &[u64], roots: &[u64]) ->
         return false;
     }
     let swept = phase != SWEEP;
-    if !audit_references::roots_ok(p, table, bits, roots, swept) {
+    let kept = Kept {
+        pages: p,
+        table,
+        bits,
+        swept,
+    };
+    if !kept.roots_ok(roots) {
         return false;
     }
-    audit_words::contents_ok(p, arena, table, bits, swept)
+    let words = Words { arena, kept };
+    words.contents_ok()
 }
 
 // The refusal of P and the lengths.
