@@ -4,95 +4,73 @@
 // else (crate keeps, proofs/Beside.antt, and proofs/Around.antt here).
 #![tactic(auto)]
 
-ghost use Rattle.std.specs.Prelude.{false, ◌≡◌, ◌<◌};
+ghost use Rattle.std.specs.Prelude.{◌<◌};
 ghost use Rattle.room_sweeps.specs.Needs.{LentAudited, NoElement, NoRun};
 ghost use Rattle.room_sweeps.specs.Needs.{KindTurn, PageTurn, SweepsKind, SweepsPages};
 ghost use Rattle.model.specs.Promises.{exclusive};
 
-use element_search::Free;
 use units::{Page, Word};
-
-// No element.
-fn nothing() -> Free
-    ensures { result.found ≡ false }
-{
-    Free {
-        found: false,
-        word: Word(0),
-    }
-}
 
 // Sweeps the unswept span of the kind that starts at page s, if one does: its lowest free element. One
 // that is returned whole has none.
-fn sweep_of_kind(p: usize, table: &mut [u32], bits: &mut [u64], kind: usize, s: Page) -> Free
+fn sweep_of_kind(
+    p: usize,
+    table: &mut [u32],
+    bits: &mut [u64],
+    kind: usize,
+    s: Page,
+) -> Option<Word>
     requires { LentAudited p table.old bits.old × (s.0 < p) }
     ensures { KindTurn kind s.0 p (exclusive table) (exclusive bits) result }
 {
-    let next = page_entries::unswept_at(table, s);
-    let found = next.found;
-    if !found {
-        return nothing();
-    }
-    let span = next.span;
+    let span = page_entries::unswept_at(table, s)?;
     let of_kind = span.kind;
     if of_kind != kind {
-        return nothing();
+        return None;
     }
     span_sweep::sweep(p, table, bits, span);
-    let after = s.0 + 1;
-    element_search::free_between(p, table, bits, kind, s, Page(after))
+    element_search::free_between(p, table, bits, kind, s, Page(s.0 + 1))
 }
 
 // Sweeps unswept spans of the kind, from the lowest start page until one has a free element: that
 // element.
-pub fn sweep_kind(p: usize, table: &mut [u32], bits: &mut [u64], kind: usize) -> Free
+pub fn sweep_kind(p: usize, table: &mut [u32], bits: &mut [u64], kind: usize) -> Option<Word>
     requires { LentAudited p table.old bits.old × NoElement kind p table.old bits.old }
     ensures { SweepsKind kind p (exclusive table) (exclusive bits) result }
 {
-    let mut s = 0;
-    while s < p {
-        let at = s;
-        s += 1;
-        let free = sweep_of_kind(p, table, bits, kind, Page(at));
-        if free.found {
-            return free;
+    for s in 0..p {
+        if let Some(word) = sweep_of_kind(p, table, bits, kind, Page(s)) {
+            return Some(word);
         }
     }
-    nothing()
+    None
 }
 
 // Sweeps the unswept span that starts at page s, if one does, where no run of n pages is free: the best
-// run, or p. If its pages are returned, the run around them alone can have become long enough.
-fn sweep_any(p: usize, table: &mut [u32], bits: &mut [u64], n: usize, s: Page) -> Page
+// run, if there is one then. If its pages are returned, the run around them alone can have become long
+// enough.
+fn sweep_any(p: usize, table: &mut [u32], bits: &mut [u64], n: usize, s: Page) -> Option<Page>
     requires { LentAudited p table.old bits.old × (s.0 < p) × (0 < n) × NoRun n p table.old }
     ensures { PageTurn n s.0 p (exclusive table) (exclusive bits) result }
 {
-    let next = page_entries::unswept_at(table, s);
-    let found = next.found;
-    if !found {
-        return Page(p);
-    }
-    let swept = span_sweep::sweep(p, table, bits, next.span);
+    let span = page_entries::unswept_at(table, s)?;
+    let swept = span_sweep::sweep(p, table, bits, span);
     if swept.returned == 0 {
-        return Page(p);
+        return None;
     }
     page_runs::run_around(p, table, s, n)
 }
 
-// Sweeps unswept spans, from the lowest start page until a run of n pages is free: the best run, or p
-// if there is none after all of them.
-pub fn sweep_pages(p: usize, table: &mut [u32], bits: &mut [u64], n: usize) -> Page
+// Sweeps unswept spans, from the lowest start page until a run of n pages is free: the best run, if
+// there is one after all of them.
+pub fn sweep_pages(p: usize, table: &mut [u32], bits: &mut [u64], n: usize) -> Option<Page>
     requires { LentAudited p table.old bits.old × NoRun n p table.old × (0 < n) }
     ensures { SweepsPages n p (exclusive table) (exclusive bits) result }
 {
-    let mut s = 0;
-    while s < p {
-        let at = s;
-        s += 1;
-        let page = sweep_any(p, table, bits, n, Page(at));
-        if page.0 < p {
-            return page;
+    for s in 0..p {
+        if let Some(page) = sweep_any(p, table, bits, n, Page(s)) {
+            return Some(page);
         }
     }
-    Page(p)
+    None
 }
