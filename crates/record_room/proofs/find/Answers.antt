@@ -1,39 +1,38 @@
 -- `record_room::find` meets its contract. Each way out has its law in proofs/Room.antt.
 use mathlib.Core.Path.{refl}
+use native.Mathlib.Omega.{arith}
 use Rattle.record_room.proofs.Room.{told, element_kept, found_old, found_new, found_none}
 use Rattle.record_room.proofs.find.Goals as goal
 
-pub element_for-free-requires : goal.element_for-free-requires
-element_for-free-requires c = ((c.requires.0.0, c.args.roots.now, c.requires.0.1), told c.requires.0.1 refl)
+pub element_for-requires : goal.element_for-requires
+element_for-requires c = ((c.requires.0.0, c.args.roots.now, c.requires.0.1), told c.requires.0.1 refl)
 
-pub returns-then-free : goal.returns-then-free
-returns-then-free c a F =
-    record {
-      found = found_old F c.args.shape.kind c.args.shape.pages (c.element_for-free.ensures a c.args.roots.now F) c.if-free.true refl refl refl;
-      same = refl;
-    }
+pub returns-in-Some : goal.returns-in-Some
+returns-in-Some c a F = record { found = found_old F _ _ (c.in-Some.ensures a c.args.roots.now F) _ refl refl; same = refl }
 
-pub pages_for-page-requires : goal.pages_for-page-requires
-pages_for-page-requires c =
-    let K = element_kept c.args.shape.kind c.requires.0.1 (c.element_for-free.ensures c.requires.0.0 c.args.roots.now c.requires.0.1) in
+pub pages_for-requires : goal.pages_for-requires
+pages_for-requires c =
+    let K = element_kept c.args.shape.kind c.requires.0.1 (c.in_default.ensures c.requires.0.0 c.args.roots.now c.requires.0.1) in
     ((c.requires.0.0, c.args.roots.now, K), told K refl, c.requires.1)
 
-pub returns-then-page-p : goal.returns-then-page-p
-returns-then-page-p c a F =
+pub first_word-requires : goal.first_word-requires
+first_word-requires c =
+    let a = c.requires.0.0 in
     let o = c.args.roots.now in
-    let D = c.element_for-free.ensures a o F in
-    record {
-      found = found_new F c.args.shape.kind c.args.shape.pages D c.if-free.false (c.pages_for-page.ensures a o (element_kept c.args.shape.kind F D))
-          c.if-page-p.true refl c.first_word.ensures refl;
-      same = refl;
-    }
+    let K = element_kept c.args.shape.kind c.requires.0.1 (c.in_default.ensures a o c.requires.0.1) in
+    let E = c.in-Some-pages_for.ensures a o K in
+    omega (arith, E.run, c.requires.0.1.sized.high)
+
+pub returns-in-Some-pages_for : goal.returns-in-Some-pages_for
+returns-in-Some-pages_for c a F =
+    let o = c.args.roots.now in
+    let D = c.in_default.ensures a o F in
+    let E = c.in-Some-pages_for.ensures a o (element_kept c.args.shape.kind F D) in
+    record { found = found_new F c.args.shape.kind c.args.shape.pages D E E.run _ c.first_word.ensures refl; same = refl }
 
 pub returns : goal.returns
 returns c a F =
     let o = c.args.roots.now in
-    let D = c.element_for-free.ensures a o F in
-    record {
-      found = found_none F c.args.shape.kind c.args.shape.pages D c.if-free.false (c.pages_for-page.ensures a o (element_kept c.args.shape.kind F D))
-          c.if-page-p.false c.refused.ensures.0;
-      same = c.refused.ensures.1;
-    }
+    let D = c.in_default.ensures a o F in
+    let E = c.in_default-pages_for.ensures a o (element_kept c.args.shape.kind F D) in
+    record { found = found_none F c.args.shape.kind c.args.shape.pages D E E.run; same = tt }
