@@ -2,3 +2,4 @@ pub mod Runs
 pub mod Bits
 pub mod Ranges
 pub mod Parts
+pub mod Slices

@@ -3,9 +3,9 @@
 // crate apart from bitmap for the gate's time: each wrong program proves its whole crate again.
 #![tactic(auto)]
 
-ghost use Rattle.std.specs.Prelude.{◌≡◌, true, false, cond, ◌+◌, ◌-◌, ◌*◌, ◌^◌, ◌<◌, ◌≤◌, length, get_or};
+ghost use Rattle.std.specs.Prelude.{◌≡◌, true, false, cond, ◌+◌, ◌-◌, ◌*◌, ◌^◌, ◌<◌, ◌≤◌, length};
 ghost use Rattle.model.specs.Bounded.{write_run, count_below};
-ghost use Rattle.model.specs.Memory.{word_bits, put_words};
+ghost use Rattle.model.specs.Memory.{word_bits};
 ghost use Rattle.model.specs.Bitmaps.{bit_at, with_bit, with_bit_of};
 ghost use Rattle.bitmap_range.specs.Moved.{moved_words};
 
@@ -15,10 +15,7 @@ use units::{ALL_BITS, WORD_BITS};
 fn all_bits(on: bool) -> u64
     ensures { result ≡ cond on (2 ^ word_bits - 1) 0 }
 {
-    if on {
-        return ALL_BITS;
-    }
-    0
+    if on { ALL_BITS } else { 0 }
 }
 
 // The word `w` with its bits `low` to `low + k - 1` on or off.
@@ -28,37 +25,7 @@ fn put_bits(w: u64, low: usize, k: usize, on: bool) -> u64
 {
     let short = WORD_BITS - k;
     let mask = (ALL_BITS >> short) << low;
-    if on {
-        return w | mask;
-    }
-    w & !mask
-}
-
-// Sets words `first` to `first + n - 1` to one value.
-fn fill_words(ws: &mut [u64], first: usize, n: usize, value: u64)
-    requires { first + n ≤ length ws.old }
-    ensures { ws.new ≡ put_words first n (λ i. value) ws.old }
-{
-    let mut k = 0;
-    while k < n {
-        let at = first + k;
-        k += 1;
-        ws[at] = value;
-    }
-}
-
-// Copies words `from` to `from + n - 1` to the n words at `to`, which lie before them.
-fn copy_words(ws: &mut [u64], to: usize, from: usize, n: usize)
-    requires { (to + n ≤ from) × (from + n ≤ length ws.old) }
-    ensures { ws.new ≡ put_words to n (λ i. get_or ws.old (i - to + from) 0) ws.old }
-{
-    let mut k = 0;
-    while k < n {
-        let at = to + k;
-        let w = ws[from + k];
-        k += 1;
-        ws[at] = w;
-    }
+    if on { w | mask } else { w & !mask }
 }
 
 // Turns n bits on or off, from the first bit of word `first`: whole words, then a mask in the last
@@ -69,11 +36,11 @@ fn put_from_word(ws: &mut [u64], first: usize, n: usize, on: bool)
 {
     let whole = n / WORD_BITS;
     let rest = n % WORD_BITS;
-    fill_words(ws, first, whole, all_bits(on));
+    let last = first + whole;
+    ws[first..last].fill(all_bits(on));
     if rest == 0 {
         return;
     }
-    let last = first + whole;
     ws[last] = put_bits(ws[last], 0, rest, on);
 }
 
@@ -97,7 +64,7 @@ fn put_range(ws: &mut [u64], from: usize, n: usize, on: bool)
     put_from_word(ws, first + 1, n - room, on);
 }
 
-// Turns bits `from` to `from + n - 1` on.
+// Turns bits `from` to `from + n - 1` on. This and the next name the two values of a flag.
 pub fn set_range(ws: &mut [u64], from: usize, n: usize)
     requires { from + n ≤ word_bits * length ws.old }
     ensures { ws.new ≡ write_run with_bit from n (λ i. true) ws.old }
@@ -119,12 +86,9 @@ pub fn count_range(ws: &[u64], first: usize, n: usize) -> usize
     requires { (first + n ≤ length ws.now) × (n * word_bits < 2 ^ word_bits) }
     ensures { result ≡ count_below (n * word_bits) (λ k. bit_at ws.now (first * word_bits + k)) }
 {
-    let mut k = 0;
     let mut total: usize = 0;
-    while k < n {
-        let w = ws[first + k];
-        k += 1;
-        total += u64::count_ones(w) as usize;
+    for w in &ws[first..first + n] {
+        total += w.count_ones() as usize;
     }
     total
 }
@@ -135,6 +99,6 @@ pub fn move_range(ws: &mut [u64], to: usize, from: usize, n: usize)
     requires { (to + n ≤ from) × (from + n ≤ length ws.old) }
     ensures { ws.new ≡ moved_words to from n ws.old }
 {
-    copy_words(ws, to, from, n);
-    fill_words(ws, from, n, 0);
+    ws.copy_within(from..from + n, to);
+    zeroing::zero_part(ws, from, n);
 }

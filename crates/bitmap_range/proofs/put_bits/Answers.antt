@@ -19,5 +19,5 @@ put on p e low k w h f =
 pub returns-then-on : goal.returns-then-on
 returns-then-on c = let a = c.args in put a.on true c.if-on.true a.low a.k a.w (omega arith) (omega arith)
 
-pub returns : goal.returns
-returns c = let a = c.args in put a.on false c.if-on.false a.low a.k a.w (omega arith) (omega arith)
+pub returns-else-on : goal.returns-else-on
+returns-else-on c = let a = c.args in put a.on false c.if-on.false a.low a.k a.w (omega arith) (omega arith)
