@@ -35,103 +35,18 @@ pub struct Progress {
     pub more: bool,
 }
 
-// The first line, on the part of each buffer that the pages it asks for take.
-fn play_first(
-    arena: &mut [u64],
-    table: &mut [u32],
-    bits: &mut [u64],
-    roots: &mut [u64],
-    out: &mut [u8],
-    line: &[u8],
-    at: usize,
-) -> Progress
-    requires lent_memory { LentMemory arena.old table.old bits.old roots.old out.old }
-    requires longest_answer_bound { at + longest_answer ≤ block_bytes }
-    ensures { InRange result }
-{
-    let p = trace_line::pages(line);
-    let n = p as usize;
-    let words = units::PAGE_WORDS * n;
-    let entries = units::ENTRY_NUMBERS * n;
-    let marks = units::BITMAP_WORDS * n;
-    let step = trace_line::first_line(
-        &mut arena[..words],
-        &mut table[..entries],
-        &mut bits[..marks],
-        roots,
-        line,
-        out,
-        at,
-    );
-    Progress {
-        pages: p,
-        lines: 1,
-        used: 0,
-        at: step.at,
-        more: step.more,
-    }
-}
-
-// A later line, on the part of each buffer that the run's pages take.
-fn play_later(
-    arena: &mut [u64],
-    table: &mut [u32],
-    bits: &mut [u64],
-    roots: &mut [u64],
-    out: &mut [u8],
-    line: &[u8],
-    p: u64,
-    number: u64,
-    at: usize,
-) -> Progress
-    requires lent_memory { LentMemory arena.old table.old bits.old roots.old out.old }
-    requires p_le_most_pages { (p ≤ most_pages) × (at + longest_answer ≤ block_bytes) }
-    ensures { InRange result }
-{
-    let n = p as usize;
-    let words = units::PAGE_WORDS * n;
-    let entries = units::ENTRY_NUMBERS * n;
-    let marks = units::BITMAP_WORDS * n;
-    let step = trace_line::later_line(
-        p,
-        &mut arena[..words],
-        &mut table[..entries],
-        &mut bits[..marks],
-        roots,
-        number,
-        line,
-        out,
-        at,
-    );
-    Progress {
-        pages: p,
-        lines: number,
-        used: 0,
-        at: step.at,
-        more: step.more,
-    }
-}
-
 // The bytes go to standard output. What a write that fails leaves unwritten is lost, and the run goes
 // on.
-fn write_out(stdout: Stdout, bytes: &[u8]) {
-    let mut to = stdout;
-    match to.write_all(bytes) {
-        Ok(()) => {}
-        Err(_) => {}
-    }
+fn write_out(mut stdout: Stdout, bytes: &[u8]) {
+    let _ = stdout.write_all(bytes);
 }
 
 // The next bytes of standard input, at the start of the block. There are none at its end, nor where
 // a read fails.
-fn read_block(stdin: Stdin, block: &mut [u8]) -> usize
+fn read_block(mut stdin: Stdin, block: &mut [u8]) -> usize
     ensures { result ≤ length block.new }
 {
-    let mut from = stdin;
-    match from.read(block) {
-        Ok(n) => n,
-        Err(_) => 0,
-    }
+    stdin.read(block).unwrap_or(0)
 }
 
 // Room for one more line of output: what waits is written where it has to be.
@@ -146,7 +61,8 @@ fn room(stdout: Stdout, out: &[u8], at: usize) -> usize
     0
 }
 
-// A line that was read to its end.
+// A line that was read to its end, on the part of each buffer that the run's pages take: those that
+// the first line asks for, if it asks for some.
 fn play_line(
     stdout: Stdout,
     arena: &mut [u64],
@@ -162,11 +78,29 @@ fn play_line(
     ensures { InRange result }
 {
     let at = room(stdout, out, run.at);
-    if run.lines == 0 {
-        return play_first(arena, table, bits, roots, out, line, at);
+    let is_first = run.lines == 0;
+    let pages = if is_first {
+        trace_line::pages(line).unwrap_or(0)
+    } else {
+        run.pages
+    };
+    let lines = run.lines.wrapping_add(1);
+    let n = pages as usize;
+    let arena = &mut arena[..units::PAGE_WORDS * n];
+    let table = &mut table[..units::ENTRY_NUMBERS * n];
+    let bits = &mut bits[..units::BITMAP_WORDS * n];
+    let step = if is_first {
+        trace_line::first_line(arena, table, bits, roots, line, out, at)
+    } else {
+        trace_line::later_line(pages, arena, table, bits, roots, lines, line, out, at)
+    };
+    Progress {
+        pages,
+        lines,
+        used: 0,
+        at: step.at,
+        more: step.more,
     }
-    let number = std::num::wrapping_add_u64(run.lines, 1);
-    play_later(arena, table, bits, roots, out, line, run.pages, number, at)
 }
 
 // Before the first line.
@@ -182,20 +116,6 @@ fn begun() -> Progress
     }
 }
 
-// The run with so many bytes of the line under way.
-fn paused(run: Progress, used: usize, more: bool) -> Progress
-    requires { InRange run × (used ≤ longest_line) }
-    ensures { InRange result }
-{
-    Progress {
-        pages: run.pages,
-        lines: run.lines,
-        used,
-        at: run.at,
-        more,
-    }
-}
-
 // What is left of a block behind its last line: the line under way, or one that is too long, which
 // ends the run.
 fn left_over(run: Progress, taken: Taken) -> Progress
@@ -204,8 +124,16 @@ fn left_over(run: Progress, taken: Taken) -> Progress
 {
     match taken {
         Taken::Line(_, _) => run,
-        Taken::Part(n) => paused(run, n, true),
-        Taken::TooLong => paused(run, trace_read::LONGEST, false),
+        Taken::Part(used) => Progress {
+            used,
+            more: true,
+            ..run
+        },
+        Taken::TooLong => Progress {
+            used: trace_read::LONGEST,
+            more: false,
+            ..run
+        },
     }
 }
 
@@ -226,15 +154,14 @@ fn feed(
     ensures { InRange result }
 {
     let mut run = from;
-    let mut used = from.used;
     let mut i = 0;
+    // Not a for: a turn passes a whole line.
     while run.more {
-        let taken = trace_split::take(line, used, block, i);
+        let taken = trace_split::take(line, run.used, block, i);
         let Taken::Line(n, next) = taken else {
             return left_over(run, taken);
         };
         run = play_line(stdout, arena, table, bits, roots, out, &line[..n], run);
-        used = 0;
         i = next;
     }
     run
@@ -245,15 +172,8 @@ fn flushed(stdout: Stdout, out: &[u8], run: Progress) -> Progress
     requires { InRange run × (length out.now ≡ block_bytes) }
     ensures { InRange result }
 {
-    let at = run.at;
-    write_out(stdout, &out[..at]);
-    Progress {
-        pages: run.pages,
-        lines: run.lines,
-        used: run.used,
-        at: 0,
-        more: run.more,
-    }
+    write_out(stdout, &out[..run.at]);
+    Progress { at: 0, ..run }
 }
 
 // The end of the run: what waits is written. A line under way does not read, nor does an input with
@@ -261,12 +181,11 @@ fn flushed(stdout: Stdout, out: &[u8], run: Progress) -> Progress
 fn end(stdout: Stdout, out: &mut [u8], run: Progress)
     requires { InRange run × (length out.old ≡ block_bytes) }
 {
-    let at = run.at;
-    write_out(stdout, &out[..at]);
+    write_out(stdout, &out[..run.at]);
     if run.used == 0 && run.lines != 0 {
         return;
     }
-    let number = std::num::wrapping_add_u64(run.lines, 1);
+    let number = run.lines.wrapping_add(1);
     let n = trace_write::write_bad(out, 0, number);
     write_out(stdout, &out[..n]);
 }
@@ -282,11 +201,11 @@ fn main(rt: HostRuntime) {
     let mut block = [0u8; BLOCK_BYTES];
     let mut out = [0u8; BLOCK_BYTES];
     let mut run = begun();
+    // Without end: a loop that only its input ends is written by a count.
     for _ in 0..u64::MAX {
         let n = read_block(stdin, &mut block);
         if n == 0 {
-            end(stdout, &mut out, run);
-            return;
+            break;
         }
         run = feed(
             stdout,
@@ -300,9 +219,9 @@ fn main(rt: HostRuntime) {
             run,
         );
         if !run.more {
-            end(stdout, &mut out, run);
-            return;
+            break;
         }
         run = flushed(stdout, &out, run);
     }
+    end(stdout, &mut out, run);
 }

@@ -1,10 +1,10 @@
 -- Laws of a line's work: from what a call and a writer promise to what the line's work does.
-use Prim.Native.Nat.{ℕ, ◌<◌, ◌≤◌}
+use Prim.Native.Nat.{ℕ}
 use mathlib.Core.Bool.{Bool, true, false}
 use mathlib.Core.List.{List}
 use mathlib.Core.Path.{◌≡◌, refl}
 use native.Mathlib.Omega.{arith}
-use borrow.Author.Tests.{le-leb, lt-leb}
+use Rattle.std.proofs.Common.{Option, Some, None}
 use Rattle.model.specs.Memory.{Heap}
 use Rattle.model.specs.Answers.{Outcome, Meets, accepted, bad_buffers}
 use Rattle.model.specs.Calls as model
@@ -13,10 +13,10 @@ use Rattle.model.specs.declared.Call.TheVariants as call
 use Rattle.model.specs.declared.Answer.{Answer}
 use Rattle.model.specs.declared.Answer.TheVariants.{Refused}
 use Rattle.trace_read.specs.declared.Line.{Line}
-use Rattle.trace_read.specs.declared.Line.TheVariants.{Bad, Setup, Call}
+use Rattle.trace_read.specs.declared.Line.TheVariants.{Setup, Call}
 use Rattle.trace_write.specs.Text.{answer_text, bad_text, Wrote}
 use Rattle.trace_write.proofs.Bytes.{answer_length, bad_length}
-use Rattle.trace_line.specs.Play.{answered, played_bad, most_pages, in_reach, setup_refused, played_setup, with_pages, first, later, pages_of, Plays}
+use Rattle.trace_line.specs.Play.{answered, played_bad, in_reach, setup_refused, played_setup, with_pages, first, later, Plays}
 
 -- a call was made and its answer written
 pub plays : {o : Outcome} {answer : Answer} {a t b s x y : List ℕ} {at e : ℕ} (more : Bool) → Meets o answer a t b s → Wrote (answer_text answer) at x y e → Plays (answered o more) at x y (record { at = e; more = more }) a t b s
@@ -42,16 +42,6 @@ plays_bad {h} {x} {y} {at} {e} number w = record {
   roots = refl;
 }
 
--- P is 1 to 8, or not
-pub reach_yes : (p : ℕ) → 1 ≤ p → p ≤ most_pages → in_reach p ≡ true
-reach_yes p h k = rw (le-leb 1 p h, le-leb p most_pages k)
-
-pub reach_none : (p : ℕ) → p ≡ 0 → in_reach p ≡ false
-reach_none p h = rw (lt-leb 1 p (omega arith))
-
-pub reach_past : (p : ℕ) → most_pages < p → in_reach p ≡ false
-reach_past p h = rw (le-leb 1 p (omega arith), lt-leb p most_pages h)
-
 -- `H P` out of reach
 pub plays_refused : {x y : List ℕ} {at e : ℕ} (h : Heap) (p : ℕ) → in_reach p ≡ false → Wrote (answer_text (Refused bad_buffers)) at x y e →
     Plays (played_setup p h) at x y (record { at = e; more = false }) h.arena h.table h.bits h.roots
@@ -68,17 +58,12 @@ plays_setup {answer} {a} {t} {b} {s} {x} {y} {at} {e} {more} h p r m k w =
     rw r (record { written = q.written; room = q.room; more = rw (← m.answer) k; arena = q.arena; table = q.table; bits = q.bits; roots = q.roots })
 
 -- a first line that is not H, and a later line that is no call
-pub not_setup : (l : Line) → ((p : ℕ) → l ≡ Setup p → ⊥) → (h : Heap) → first l h ≡ played_bad 1 h
-not_setup Bad k h = refl
-not_setup (Setup p) k h = absurd (k p refl)
-not_setup (Call c) k h = refl
+pub not_setup : (l : Option Line) → ((p : ℕ) → l ≡ Some (Setup p) → ⊥) → (h : Heap) → first l h ≡ played_bad 1 h
+not_setup None k h = refl
+not_setup (Some (Setup p)) k h = absurd (k p refl)
+not_setup (Some (Call c)) k h = refl
 
-pub no_pages : (l : Line) → ((p : ℕ) → l ≡ Setup p → ⊥) → pages_of l ≡ 0
-no_pages Bad k = refl
-no_pages (Setup p) k = absurd (k p refl)
-no_pages (Call c) k = refl
-
-pub not_call : (l : Line) → ((c : AnyCall) → l ≡ Call c → ⊥) → (number : ℕ) (h : Heap) → later l number h ≡ played_bad number h
-not_call Bad k number h = refl
-not_call (Setup p) k number h = refl
-not_call (Call c) k number h = absurd (k c refl)
+pub not_call : (l : Option Line) → ((c : AnyCall) → l ≡ Some (Call c) → ⊥) → (number : ℕ) (h : Heap) → later l number h ≡ played_bad number h
+not_call None k number h = refl
+not_call (Some (Setup p)) k number h = refl
+not_call (Some (Call c)) k number h = absurd (k c refl)

@@ -3,11 +3,12 @@ use Prim.Native.Nat.{ℕ, zero, suc, ◌+◌, ◌-◌, ◌*◌, ◌/◌, ◌%◌
 use mathlib.Core.Bool.{Bool, true, false, cond}
 use mathlib.Core.List.{List, [], ◌∷◌, ◌++◌, append_assoc, append-nil}
 use mathlib.Core.Path.{◌≡◌, refl, sym, ◌∙◌, ap}
+use Rattle.std.proofs.Common.{Some}
 use native.Mathlib.Nat.{pow-suc}
 use native.Mathlib.Omega.{arith}
 use lib.Dec.{ltb}
 use borrow.Author.Tests.{ltb-true, ltb-false, lt-ltb, le-leb, ne_eqb}
-use Rattle.trace_read.specs.Lines.{before, ended, counted, is_digit, digits, number, numbers_of}
+use Rattle.trace_read.specs.Lines.{before, ended, is_digit, digits, number, numbers_of}
 use Rattle.trace_write.specs.Text.{decimal_in, decimal, spaced}
 
 -- the byte of a digit
@@ -31,6 +32,6 @@ back (suc k) n rest h = go (ltb n 10) refl (λ l. back k (n / 10) ((48 + n % 10)
         let z : n / 10 * 10 + (48 + n % 10 - 48) ≡ n = omega arith in
         rw append_assoc (f l ∙ rw (is_digit_lem (n % 10) (omega arith), ne_eqb (n / 10) 0 (λ q. omega arith), z))
 
-pub reads_back : (n : ℕ) → n < 2 ^ 64 → numbers_of (spaced n) ≡ counted 1 n 0 0 0
+pub reads_back : (n : ℕ) → n < 2 ^ 64 → numbers_of (spaced n) ≡ Some (n ∷ [])
 unfolding numbers_of decimal ended before digits
 reads_back n h = ap number (sym (append-nil (decimal_in 20 n))) ∙ back 19 n [] (omega arith) ∙ rw (lt-ltb n (2 ^ 64) h)

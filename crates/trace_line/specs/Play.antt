@@ -1,5 +1,5 @@
 -- The work of one line of a trace: what is written for it, the buffers that the next line finds, and whether the run goes on.
-use Rattle.std.specs.Prelude.{ℕ, ◌≤◌, ◌+◌, Bool, true, false, ◌&&◌, List, ◌≡◌, if◌then◌else◌}
+use Rattle.std.specs.Prelude.{ℕ, ◌≤◌, ◌+◌, Bool, true, false, ◌&&◌, List, Option, Some, None, ◌≡◌, if◌then◌else◌}
 use Rattle.model.specs.Bounded.{◌≤?◌}
 use Rattle.model.specs.Memory.{Heap, lent}
 use Rattle.model.specs.Answers.{Outcome, accepted, bad_buffers}
@@ -8,7 +8,7 @@ use Rattle.model.specs.Promises.{Buffer, found}
 use Rattle.model.specs.declared.Answer.TheVariants.{Refused}
 use Rattle.model.specs.declared.Call.TheVariants as call
 use Rattle.trace_read.specs.declared.Line.{Line}
-use Rattle.trace_read.specs.declared.Line.TheVariants.{Bad, Setup, Call}
+use Rattle.trace_read.specs.declared.Line.TheVariants.{Setup, Call}
 use Rattle.trace_write.specs.Text.{answer_text, bad_text, longest_answer, Wrote}
 use Rattle.trace_line.specs.declared.LineResult.{LineResult}
 
@@ -45,22 +45,22 @@ played_setup p h =
     else answered (setup_refused h) false
 
 -- "`H P` comes first"; "so does .. a first line that is not H"
-abbrev pub first : Line → Heap → Played
-first Bad h = played_bad 1 h
-first (Setup p) h = played_setup p h
-first (Call c) h = played_bad 1 h
+abbrev pub first : Option Line → Heap → Played
+first None h = played_bad 1 h
+first (Some (Setup p)) h = played_setup p h
+first (Some (Call c)) h = played_bad 1 h
 
 -- ".. and only once"; "or a later H"
-abbrev pub later : Line → ℕ → Heap → Played
-later Bad number h = played_bad number h
-later (Setup p) number h = played_bad number h
-later (Call c) number h = answered (model.run h c) true
+abbrev pub later : Option Line → ℕ → Heap → Played
+later None number h = played_bad number h
+later (Some (Setup p)) number h = played_bad number h
+later (Some (Call c)) number h = answered (model.run h c) true
 
--- how many pages the first line asks for, 0 where it asks for none that can be had
-abbrev pub pages_of : Line → ℕ
-pages_of Bad = 0
-pages_of (Setup p) = if in_reach p then p else 0
-pages_of (Call c) = 0
+-- how many pages the first line asks for, if it asks for some that can be had
+abbrev pub pages_of : Option Line → Option ℕ
+pages_of None = None
+pages_of (Some (Setup p)) = if in_reach p then Some p else None
+pages_of (Some (Call c)) = None
 
 -- what the work of a line promises: the bytes that it wrote from `at` on, no more than the longest line has, whether the run goes on, and the four
 -- buffers

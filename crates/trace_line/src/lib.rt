@@ -6,13 +6,14 @@ ghost use Rattle.std.specs.Prelude.{◌≡◌, ◌+◌, ◌≤◌, length};
 ghost use Rattle.model.specs.Answers.{accepted};
 ghost use Rattle.trace_read.specs.Lines.{read_line};
 ghost use Rattle.trace_write.specs.Text.{longest_answer};
-ghost use Rattle.trace_line.specs.Play.{most_pages, played_setup, first, later, pages_of, PlaysLine};
+ghost use Rattle.trace_line.specs.Play.{in_reach, played_setup, first, later, pages_of, PlaysLine};
 ghost use Rattle.model.specs.Promises.{exclusive};
 
-use model::{Answer, Call};
+use model::{Answer, Call, Refusal};
 use trace_read::Line;
 
 // What the work of a line leaves: the place after what it wrote, and whether the run goes on.
+// Not a ControlFlow: both ways have the place, and callers take it alike.
 #[derive(Clone, Copy)]
 pub struct LineResult {
     pub at: usize,
@@ -22,28 +23,26 @@ pub struct LineResult {
 // The trace program has memory for so many pages.
 pub const MOST_PAGES: u64 = 8;
 
-// How many pages the first line asks for: 1 to 8, or 0 where it asks for none that can be had.
-pub fn pages(line: &[u8]) -> u64
-    ensures { (result ≡ pages_of (read_line line.now)) × (result ≤ most_pages) }
+fn in_reach(p: u64) -> bool
+    ensures { result ≡ in_reach p }
 {
-    let Line::Setup(p) = trace_read::read(line) else {
-        return 0;
-    };
-    if p <= MOST_PAGES {
-        return p;
+    (1..=MOST_PAGES).contains(&p)
+}
+
+// How many pages the first line asks for, if it asks for some that can be had.
+pub fn pages(line: &[u8]) -> Option<u64>
+    ensures { result ≡ pages_of (read_line line.now) }
+{
+    match trace_read::read(line)? {
+        Line::Setup(p) if in_reach(p) => Some(p),
+        _ => None,
     }
-    0
 }
 
 fn is_accepted(answer: Answer) -> bool
     ensures { result ≡ accepted answer }
 {
-    match answer {
-        Answer::Refused(n) => n == 0,
-        Answer::Done => true,
-        Answer::Value(_) => true,
-        Answer::Swept(_, _, _) => true,
-    }
+    !matches!(answer, Answer::Refused(1..))
 }
 
 // `H p`, as the first line.
@@ -60,12 +59,8 @@ fn set_up(
     ensures { PlaysLine (played_setup p) 0 (exclusive arena) (exclusive table) (exclusive bits)
         (exclusive roots) (exclusive out) at result }
 {
-    if p == 0 {
-        let e = trace_write::write_answer(out, at, Answer::Refused(units::BAD_BUFFERS));
-        return LineResult { at: e, more: false };
-    }
-    if MOST_PAGES < p {
-        let e = trace_write::write_answer(out, at, Answer::Refused(units::BAD_BUFFERS));
+    if !in_reach(p) {
+        let e = trace_write::write_answer(out, at, Answer::from(Err(Refusal::BadBuffers)));
         return LineResult { at: e, more: false };
     }
     let answer = heap::make(p, arena, table, bits, roots, Call::Setup);
@@ -74,7 +69,8 @@ fn set_up(
     LineResult { at: e, more }
 }
 
-// The first line of a trace. The buffers are those of the pages that `pages` tells.
+// The first line of a trace. The buffers are those of the pages that `pages` tells, of none
+// where it tells none.
 pub fn first_line(
     arena: &mut [u64],
     table: &mut [u32],
@@ -88,7 +84,7 @@ pub fn first_line(
     ensures { PlaysLine (first (read_line line.now)) 0 (exclusive arena) (exclusive table)
         (exclusive bits) (exclusive roots) (exclusive out) at result }
 {
-    let Line::Setup(p) = trace_read::read(line) else {
+    let Some(Line::Setup(p)) = trace_read::read(line) else {
         let e = trace_write::write_bad(out, at, 1);
         return LineResult { at: e, more: false };
     };
@@ -111,7 +107,7 @@ pub fn later_line(
     ensures { PlaysLine (later (read_line line.now) number) p (exclusive arena) (exclusive table)
         (exclusive bits) (exclusive roots) (exclusive out) at result }
 {
-    let Line::Call(call) = trace_read::read(line) else {
+    let Some(Line::Call(call)) = trace_read::read(line) else {
         let e = trace_write::write_bad(out, at, number);
         return LineResult { at: e, more: false };
     };

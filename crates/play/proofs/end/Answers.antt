@@ -1,13 +1,10 @@
--- `play::end` is safe.
+-- `play::end` is safe: no line is longer than the longest.
 use Rattle.std.proofs.Common.{sym, arith, length-take-le}
 use Rattle.trace_write.proofs.Bytes.{bad_length}
 use Rattle.play.proofs.end.Goals as goal
 
-pub slice_bounds-write_out-end-2 : goal.slice_bounds-write_out-end-2
-slice_bounds-write_out-end-2 c = sym (length-take-le c.args.run.at c.args.out.now (omega arith))
-
 pub slice_bounds-write_out-end-3 : goal.slice_bounds-write_out-end-3
-slice_bounds-write_out-end-3 c = omega (arith, c.write_bad-n.ensures.end, c.write_bad-n.auto.out, bad_length c.wrapping_add_u64-number.result)
+slice_bounds-write_out-end-3 c = omega (arith, c.write_bad-n.ensures.end, c.write_bad-n.auto.out, bad_length)
 
 pub slice_bounds-write_out-end-4 : goal.slice_bounds-write_out-end-4
-slice_bounds-write_out-end-4 c = sym (length-take-le c.write_bad-n.result c.write_bad-n.new.out (omega (arith, c.write_bad-n.ensures.end, c.write_bad-n.auto.out, bad_length c.wrapping_add_u64-number.result)))
+slice_bounds-write_out-end-4 c = sym (length-take-le c.write_bad-n.result c.write_bad-n.new.out (omega (arith, c.write_bad-n.ensures.end, c.write_bad-n.auto.out, bad_length)))

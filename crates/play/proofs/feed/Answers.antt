@@ -3,11 +3,6 @@ use Rattle.std.proofs.Common.{sym, arith, length-take-le, rules}
 use Rattle.trace_split.proofs.Splitting.{short, line_taken}
 use Rattle.play.proofs.feed.Goals as goal
 
-pub take-taken-requires : goal.take-taken-requires
-take-taken-requires c =
-    let i = c.loop-run.invariant in
-    record { size = i.2; room = i.3; place = i.4 }
-
 pub left_over-requires : goal.left_over-requires
 left_over-requires c = (c.loop-run.invariant.1, rw c.take-taken.ensures.0 (short _ _ _))
 
@@ -17,9 +12,6 @@ slice_bounds-play_line-end c = omega (arith, (line_taken _ _ _ c.take-taken.ensu
 pub slice_bounds-play_line-end-in-loop-run : goal.slice_bounds-play_line-end-in-loop-run
 slice_bounds-play_line-end-in-loop-run c = sym (length-take-le _ c.take-taken.new.line (omega (arith, (line_taken _ _ _ c.take-taken.ensures.0 c.in-Line.is).0, c.take-taken.auto.line, c.loop-run.invariant.2)))
 
-pub play_line-run-requires : goal.play_line-run-requires
-play_line-run-requires c = record { lent_memory = c.loop-run.invariant.0; in_range = c.loop-run.invariant.1 }
-
 pub loop-run-smaller : goal.loop-run-smaller
 loop-run-smaller c =
     let t = line_taken _ _ _ c.take-taken.ensures.0 c.in-Line.is in
@@ -28,4 +20,4 @@ loop-run-smaller c =
 pub loop-run-preserved : goal.loop-run-preserved
 loop-run-preserved c =
     let t = line_taken _ _ _ c.take-taken.ensures.0 c.in-Line.is in
-    (search rules, c.play_line-run.ensures, omega (arith, c.take-taken.auto.line, c.loop-run.invariant.2), omega arith, t.2)
+    (search rules, c.play_line-run.ensures, omega (arith, c.take-taken.auto.line, c.loop-run.invariant.2), t.2)

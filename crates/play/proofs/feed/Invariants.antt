@@ -5,7 +5,7 @@ use Rattle.play.specs.Run.{ProgramMemory, InRange}
 use Rattle.play.proofs.feed.Given as goal
 
 abbrev pub invariant-loop-run : goal.invariant-loop-run
-invariant-loop-run l = ProgramMemory l.arena l.table l.bits l.roots l.out × InRange l.run × (length l.line ≡ longest_line) × (l.used ≤ longest_line) × (l.i ≤ length l.block)
+invariant-loop-run l = ProgramMemory l.arena l.table l.bits l.roots l.out × InRange l.run × (length l.line ≡ longest_line) × (l.i ≤ length l.block)
 
 abbrev pub decreases-loop-run : goal.decreases-loop-run
 decreases-loop-run l = length l.block - l.i
