@@ -37,13 +37,12 @@ pub fn best_run(p: usize, table: &[u32], n: usize) -> Option<Page>
     let mut least = p + 1;
     // Not a for: a turn passes g's run and the page that ends it, so that each page is read once.
     while g < p {
-        let at = g;
-        let l = run_length(p, table, Page(at));
-        g = at + l + 1;
+        let l = run_length(p, table, Page(g));
         if n <= l && l < least {
-            best = Some(Page(at));
+            best = Some(Page(g));
             least = l;
         }
+        g += l + 1;
     }
     best
 }
