@@ -432,12 +432,12 @@ pub fn class_of(size: u64) -> usize
     ensures { result ≡ class_of size }
 {
     if size <= FINE_LAST {
-        let entry = (size + (FINE_STEP - 1)) / FINE_STEP;
-        return fine_class(entry as usize) as usize;
+        let entry = size.div_ceil(FINE_STEP);
+        return usize::from(fine_class(entry as usize));
     }
     if size <= MAX_SMALL {
-        let entry = (size + (COARSE_STEP - 1) - COARSE_START) / COARSE_STEP;
-        return coarse_class(entry as usize) as usize;
+        let entry = size.div_ceil(COARSE_STEP) - COARSE_START / COARSE_STEP;
+        return usize::from(coarse_class(entry as usize));
     }
     0
 }
