@@ -104,11 +104,7 @@ fn kind_of(c: usize, p: u64) -> u32
     requires { c ≤ rows }
     ensures { result ≡ 2 * c + cond (eqb p 0) 1 0 }
 {
-    let kind = 2 * c as u32;
-    if p == 0 {
-        return kind + 1;
-    }
-    kind
+    2 * c as u32 + u32::from(p == 0)
 }
 
 // The pages of a span of class c.
@@ -116,29 +112,28 @@ pub fn class_pages(c: usize) -> usize
     requires { (1 ≤ c) × (c ≤ rows) }
     ensures { result ≡ class_pages c }
 {
-    row_of(c).1 as usize
+    usize::from(row_of(c).1)
 }
 
-// The shape of a record of so many bytes with so many pointer words. In class 0 the size is not 0, so
-// that rounding it up does not wrap.
+// The shape of a record of so many bytes with so many pointer words.
 pub fn shape_of(size: u64, pointers: u64) -> Shape
     ensures { Shaped size pointers result }
 {
     let c = class_of(size);
     let kind = kind_of(c, pointers);
     if c == 0 {
-        let n = ((size - 1) / PAGE_BYTES + 1) as usize;
+        let pages = size.div_ceil(PAGE_BYTES) as usize;
         return Shape {
-            kind: kind,
-            pages: n,
-            words: PAGE_WORDS * n,
+            kind,
+            pages,
+            words: PAGE_WORDS * pages,
         };
     }
     let row = row_of(c);
     Shape {
-        kind: kind,
-        pages: row.1 as usize,
-        words: row.0 as usize,
+        kind,
+        pages: usize::from(row.1),
+        words: usize::from(row.0),
     }
 }
 
@@ -150,7 +145,7 @@ pub fn element_words(c: usize, n: usize) -> usize
     if c == 0 {
         return PAGE_WORDS * n;
     }
-    row_of(c).0 as usize
+    usize::from(row_of(c).0)
 }
 
 // The elements of a span of class c and n pages, as many as the page table can say. One row of the
@@ -161,18 +156,12 @@ pub fn layout_of(c: usize, n: usize) -> Layout
 {
     if c == 0 {
         let words = PAGE_WORDS * n;
-        return Layout {
-            words: words,
-            count: 1,
-        };
+        return Layout { words, count: 1 };
     }
     let row = row_of(c);
-    let words = row.0 as usize;
-    let count = PAGE_WORDS * row.1 as usize / words;
-    Layout {
-        words: words,
-        count: count,
-    }
+    let words = usize::from(row.0);
+    let count = PAGE_WORDS * usize::from(row.1) / words;
+    Layout { words, count }
 }
 
 // The starts of elements of so many words in the 64 words from an element's first on: bit j is on
@@ -180,8 +169,5 @@ pub fn layout_of(c: usize, n: usize) -> Layout
 pub fn starts(size: usize) -> u64
     ensures { StartsMask size result }
 {
-    if size < WORD_BITS {
-        return STARTS[size];
-    }
-    1
+    if size < WORD_BITS { STARTS[size] } else { 1 }
 }

@@ -9,4 +9,4 @@ returns-then-c-eq0 c = rw (eq-eqb _ _ c.if-c-eq0.true)
 
 pub returns : goal.returns
 unfolding element_words_of
-returns c = rw (ne_eqb _ _ c.if-c-eq0.false, c.row_of.ensures.0)
+returns c = rw (ne_eqb _ _ c.if-c-eq0.false, c.from.ensures, c.row_of.ensures.0)

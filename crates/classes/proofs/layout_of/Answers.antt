@@ -1,4 +1,5 @@
 -- `classes::layout_of` meets its contract. No class has an element of 0 words.
+use mathlib.Core.Path.{◌∙◌}
 use native.Mathlib.Omega.{arith}
 use borrow.Author.Tests.{eq-eqb}
 use Rattle.model.specs.Classes.{element_words_of, elements_of}
@@ -15,4 +16,4 @@ nonzero_div-count c =
     omega (arith, r.some, r.words, c.row_of-row.ensures.0)
 
 pub returns : goal.returns
-returns c = row_layout c.args.c _ (omega arith) (omega arith) c.row_of-row.ensures.0 c.row_of-row.ensures.1
+returns c = row_layout c.args.c _ (omega arith) (omega arith) (c.from-words.ensures ∙ c.row_of-row.ensures.0) (c.from.ensures ∙ c.row_of-row.ensures.1)

@@ -1,7 +1,6 @@
--- `classes::shape_of` meets its contract. A size of class 0 is above the largest of the others, so that it is not 0, and one page more than its
--- whole pages but for its last byte is the size rounded up.
+-- A class of 0 is a size above the largest of the others, with pages of its own.
 use mathlib.Core.Logic.{◌≢◌}
-use mathlib.Core.Path.{◌≡◌}
+use mathlib.Core.Path.{◌≡◌, ◌∙◌}
 use native.Mathlib.Omega.{arith}
 use Rattle.model.specs.Classes.{class_of, kind_of, pages_for}
 use Rattle.model.proofs.Classes.{class_within, class_zero, large_pages, small_pages, large_words, small_words}
@@ -9,9 +8,6 @@ use Rattle.classes.proofs.shape_of.Goals as goal
 
 pub kind_of-kind-requires : goal.kind_of-kind-requires
 kind_of-kind-requires c = rw c.class_of-c.ensures (class_within c.args.size)
-
-pub overflow_sub-n : goal.overflow_sub-n
-overflow_sub-n c = omega (arith, class_zero c.args.size (omega (arith, c.class_of-c.ensures)))
 
 pub returns-then-c-eq0 : goal.returns-then-c-eq0
 unfolding kind_of
@@ -30,4 +26,4 @@ returns c =
     let size = c.args.size in
     let e = c.class_of-c.ensures in
     let d : class_of size ≢ 0 = λ z. c.if-c-eq0.false (omega (arith, e)) in
-    record { kind = rw (← e) c.kind_of-kind.ensures; pages = rw (small_pages size d, ← e) c.row_of-row.ensures.1; words = rw (small_words (class_of size) (pages_for size) d, ← e) c.row_of-row.ensures.0 }
+    record { kind = rw (← e) c.kind_of-kind.ensures; pages = rw (small_pages size d, ← e) (c.from.ensures ∙ c.row_of-row.ensures.1); words = rw (small_words (class_of size) (pages_for size) d, ← e) (c.from-2.ensures ∙ c.row_of-row.ensures.0) }

@@ -42,7 +42,7 @@ pub returns-then-size-lt-WORD_BITS : goal.returns-then-size-lt-WORD_BITS
 unfolding masks starting fold_below
 returns-then-size-lt-WORD_BITS c = mask_at c.args.size (omega arith)
 
-pub returns : goal.returns
-returns c j l =
+pub returns-else-size-lt-WORD_BITS : goal.returns-else-size-lt-WORD_BITS
+returns-else-size-lt-WORD_BITS c j l =
     let e : j % c.args.size ≡ j = mod-eq_of_lt (omega arith) in
     bit_pow 0 j ∙ rw (from_zero j, e)
