@@ -20,7 +20,7 @@ pub fn test(ws: &[u64], i: usize) -> bool
     (ws[i / WORD_BITS] >> (i % WORD_BITS)) % 2 == 1
 }
 
-// Bit `i` turned on.
+// Bit `i` turned on. Not one function with the next, by a flag: it is known at each call which is meant.
 pub fn set(ws: &mut [u64], i: usize)
     requires { i / word_bits < length ws.old }
     ensures { ws.new ≡ with_bit i true ws.old }
