@@ -7,26 +7,28 @@ ghost use Rattle.std.specs.Prelude.{◌≡◌, ◌+◌, eqb, get_or};
 ghost use Rattle.model.specs.Bounded.{some_below};
 ghost use Rattle.model.specs.Memory.{first_state, stack_count, gray_state};
 ghost use Rattle.model.specs.Spans.{pointer_count};
-ghost use Rattle.model.specs.Cycle.{first_gray, mark_step, finish_refusal, finish};
+ghost use Rattle.model.specs.Cycle.{mark_step, finish_refusal, finish};
 ghost use Rattle.model.specs.Facts.{Element};
 ghost use Rattle.model.specs.Lent.{Roots, Bitmaps, Mapped};
 ghost use Rattle.model.specs.Promises.{AuditedHeap, AuditedTables, Does, DoesWithoutArena};
 ghost use Rattle.model.specs.Promises.{GivesByRoots, exclusive, shared};
 ghost use Rattle.model.specs.Promises.{ByTables, ByBits, ByBitsAndRoots};
-ghost use Rattle.call_cycle_marks.specs.Needs.{LentGray, ScansRecord, roots_refusal};
+ghost use Rattle.model.specs.Refusals.{answered, refused};
+ghost use Rattle.call_cycle_marks.specs.Needs.{FirstGray, LentGray, ScansRecord, roots_refusal};
 
-use model::Answer;
+use model::{Accepted, Refusal};
 use units::{GRAY_PART, PAGE_WORDS, POINTER_PART, Word};
 
-// The first word of the lowest gray record, or the word after the arena's last.
-fn first_gray(p: usize, bits: &[u64]) -> Word
+// The first word of the lowest gray record, if there is one.
+#[tactic(auto, using(crate::proofs::Marking::searches))]
+fn first_gray(p: usize, bits: &[u64]) -> Option<Word>
     requires { Bitmaps p bits.now }
-    ensures { ByBits (λ h. result.0 ≡ first_gray h) p (shared bits) }
+    ensures { ByBits (λ h. FirstGray h result) p (shared bits) }
 {
     let words = PAGE_WORDS * p;
     let grays = GRAY_PART * words;
-    let w = bitmap::first_set(bits, grays, grays + words) - grays;
-    Word(w)
+    let at = bitmap::first_set(bits, grays, grays + words)?;
+    Some(Word(at - grays))
 }
 
 // How many pointer words the record at word w has: its pointer bits are a run from its first word on,
@@ -50,25 +52,27 @@ fn scan_record(p: usize, arena: &[u64], table: &[u32], bits: &mut [u64], w: Word
     let at = w.0;
     let n = pointer_count(p, table, bits, w);
     bitmap::clear(bits, GRAY_PART * (PAGE_WORDS * p) + at);
-    shading::shade_slice(p, table, bits, arena, at, n);
+    shading::shade_slice(p, table, bits, &arena[at..at + n]);
 }
 
 // One mark step: the gray record with the lowest address.
-pub fn mark_step(p: usize, arena: &[u64], table: &[u32], bits: &mut [u64], roots: &[u64]) -> Answer
+pub fn mark_step(
+    p: usize,
+    arena: &[u64],
+    table: &[u32],
+    bits: &mut [u64],
+    roots: &[u64],
+) -> Result<Accepted, Refusal>
     requires { AuditedHeap p arena.now table.now bits.old roots.now }
-    ensures { Does (λ h. mark_step h) p (shared arena) (shared table) (exclusive bits) (shared roots) result }
+    ensures { Does (λ h. mark_step h) p (shared arena) (shared table) (exclusive bits) (shared roots) (answered result) }
 {
-    if roots[units::PHASE] != units::MARK {
-        return Answer::Refused(units::WRONG_PHASE);
-    }
-    let w = first_gray(p, bits);
-    let at = w.0;
-    if PAGE_WORDS * p <= at {
-        return Answer::Value(0);
-    }
+    root_checks::check_phase(roots, units::MARK)?;
+    let Some(w) = first_gray(p, bits) else {
+        return Ok(Accepted::Value(0));
+    };
     scan_record(p, arena, table, bits, w);
     let record = w.address().0;
-    Answer::Value(record)
+    Ok(Accepted::Value(record))
 }
 
 // Some stack is gray.
@@ -76,60 +80,44 @@ fn some_gray(roots: &[u64]) -> bool
     requires { Roots roots.now }
     ensures { result ≡ some_below stack_count (λ s. eqb (get_or roots.now (first_state + s) 0) gray_state) }
 {
-    let mut s = 0;
-    while s < units::STACKS {
-        if roots[units::FIRST_STATE + s] == units::GRAY {
-            return true;
-        }
-        s += 1;
-    }
-    false
+    roots[units::FIRST_STATE..units::FIRST_STATE + units::STACKS].contains(&units::GRAY)
 }
 
-// The refusal of a finish by the roots: a stack or the globals are gray.
-fn roots_refusal(roots: &[u64]) -> u64
+// Neither a stack nor the globals are gray.
+fn check_roots(roots: &[u64]) -> Result<(), Refusal>
     requires { Roots roots.now }
-    ensures { GivesByRoots (λ h. roots_refusal h) (shared roots) result }
+    ensures { GivesByRoots (λ h. roots_refusal h) (shared roots) (refused result) }
 {
-    if some_gray(roots) {
-        return units::UNFINISHED;
+    if some_gray(roots) || roots[units::GLOBALS_STATE] == units::GRAY {
+        return Err(Refusal::Unfinished);
     }
-    if roots[units::GLOBALS_STATE] == units::GRAY {
-        return units::UNFINISHED;
-    }
-    0
+    Ok(())
 }
 
-// The refusal of a finish: the phase, or something is gray.
-fn finish_refusal(p: usize, bits: &[u64], roots: &[u64]) -> u64
+// The phase is mark, and nothing is gray.
+fn check_finish(p: usize, bits: &[u64], roots: &[u64]) -> Result<(), Refusal>
     requires { Bitmaps p bits.now × Roots roots.now }
-    ensures { ByBitsAndRoots (λ h. result ≡ finish_refusal h) p (shared bits) (shared roots) }
+    ensures { ByBitsAndRoots (λ h. refused result ≡ finish_refusal h) p (shared bits) (shared roots) }
 {
-    let phase = root_checks::not_in(roots, units::MARK);
-    let gray = roots_refusal(roots);
-    if phase != 0 {
-        return phase;
+    root_checks::check_phase(roots, units::MARK).and(check_roots(roots))?;
+    match first_gray(p, bits) {
+        Some(_) => Err(Refusal::Unfinished),
+        None => Ok(()),
     }
-    if gray != 0 {
-        return gray;
-    }
-    let first = first_gray(p, bits).0;
-    if first < PAGE_WORDS * p {
-        return units::UNFINISHED;
-    }
-    0
 }
 
 // Marking ends: every span becomes unswept.
-pub fn finish(p: usize, table: &mut [u32], bits: &[u64], roots: &mut [u64]) -> Answer
+pub fn finish(
+    p: usize,
+    table: &mut [u32],
+    bits: &[u64],
+    roots: &mut [u64],
+) -> Result<Accepted, Refusal>
     requires { AuditedTables p table.old bits.now roots.old }
-    ensures { DoesWithoutArena (λ h. finish h) p (exclusive table) (shared bits) (exclusive roots) result }
+    ensures { DoesWithoutArena (λ h. finish h) p (exclusive table) (shared bits) (exclusive roots) (answered result) }
 {
-    let n = finish_refusal(p, bits, roots);
-    if n != 0 {
-        return Answer::Refused(n);
-    }
+    check_finish(p, bits, roots)?;
     page_entries::make_all_unswept(p, table);
     roots[units::PHASE] = units::SWEEP;
-    Answer::Done
+    Ok(Accepted::Done)
 }
