@@ -1,27 +1,19 @@
 -- The entry check: what its two refusals and its acceptance are.
-use Prim.Native.Nat.{ℕ, ◌*◌, ◌≤◌}
+use Prim.Native.Nat.{ℕ}
 use mathlib.Core.Bool.{Bool, true, false}
-use mathlib.Core.Logic.{◌↔◌, ◌≢◌}
+use mathlib.Core.Logic.{◌≢◌}
 use mathlib.Core.Path.{◌≡◌, refl}
-use lib.Dec.{T, eqb}
-use lib.ListN.{length}
 use borrow.Author.Tests.{ne_eqb}
-use Rattle.model.specs.Memory.{Heap, good_buffers, root_words, page_words, max_pages, bitmap_words}
+use Rattle.model.specs.Memory.{Heap, good_buffers}
 use Rattle.model.specs.Answers.{bad_buffers, damaged, ◌given◌, ◌or_else◌}
 use Rattle.model.specs.Checks.{buffers_refusal}
 use Rattle.model.specs.Audit.{audit}
 use Rattle.model.specs.Calls.{entry}
-use Rattle.model.proofs.Tests.{is_true, of_true, eqb_iff}
+use Rattle.model.proofs.Tests.{is_true, of_true}
 use Rattle.model.specs.Facts.{Sized}
-use Rattle.model.specs.Lent.{PageTable}
 use Rattle.model.proofs.Audit.{sized, sized_good}
 
 module _ (h : Heap) where
-  pub last_length : 1 ≤ h.pages → h.pages ≤ max_pages → length h.arena ≡ page_words * h.pages → PageTable h.pages h.table → length h.bits ≡ bitmap_words * h.pages →
-      T (eqb (length h.roots) root_words) ↔ Sized h
-  last_length l m a t b =
-      (λ x. record { low = l; high = m; arena = a; table = t; bits = b; roots = (eqb_iff (length h.roots) root_words).0 x }, λ Z. (eqb_iff (length h.roots) root_words).1 Z.roots)
-
   not_good : (Sized h → ⊥) → good_buffers h ≡ false
   not_good f = go (good_buffers h) refl
     where

@@ -21,23 +21,12 @@ use units::{BITMAP_WORDS, ENTRY_NUMBERS, MAX_PAGES, PAGE_WORDS, PHASE, ROOT_WORD
 fn buffers_ok(p: u64, arena: &[u64], table: &[u32], bits: &[u64], roots: &[u64]) -> bool
     ensures { T result ↔ Sized (found p (shared arena) (shared table) (shared bits) (shared roots)) }
 {
-    if p < 1 {
-        return false;
-    }
-    if (MAX_PAGES as u64) < p {
-        return false;
-    }
     let n = p as usize;
-    if arena.len() != PAGE_WORDS * n {
-        return false;
-    }
-    if table.len() != ENTRY_NUMBERS * n {
-        return false;
-    }
-    if bits.len() != BITMAP_WORDS * n {
-        return false;
-    }
-    roots.len() == ROOT_WORDS
+    (1..=MAX_PAGES as u64).contains(&p)
+        && arena.len() == PAGE_WORDS * n
+        && table.len() == ENTRY_NUMBERS * n
+        && bits.len() == BITMAP_WORDS * n
+        && roots.len() == ROOT_WORDS
 }
 
 // The audit says yes. The arena, the page table and the bitmaps are lent for one time, since one value
