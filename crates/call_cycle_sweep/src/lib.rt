@@ -4,25 +4,28 @@
 
 ghost use Rattle.model.specs.Cycle.{sweep_step};
 ghost use Rattle.model.specs.Promises.{AuditedTables, DoesWithoutArena, exclusive};
+ghost use Rattle.model.specs.Refusals.{answered};
 
-use model::Answer;
+use model::{Accepted, Refusal};
 
 // One sweep step: the lowest unswept span is swept; where there is none the cycle ends.
-pub fn sweep_step(p: usize, table: &mut [u32], bits: &mut [u64], roots: &mut [u64]) -> Answer
+pub fn sweep_step(
+    p: usize,
+    table: &mut [u32],
+    bits: &mut [u64],
+    roots: &mut [u64],
+) -> Result<Accepted, Refusal>
     requires { AuditedTables p table.old bits.old roots.old }
-    ensures { DoesWithoutArena (λ h. sweep_step h) p (exclusive table) (exclusive bits) (exclusive roots) result }
+    ensures { DoesWithoutArena (λ h. sweep_step h) p
+        (exclusive table) (exclusive bits) (exclusive roots) (answered result) }
 {
-    if roots[units::PHASE] != units::SWEEP {
-        return Answer::Refused(units::WRONG_PHASE);
-    }
-    let first = page_entries::first_unswept(p, table);
-    let found = first.found;
-    if !found {
+    root_checks::check_phase(roots, units::SWEEP)?;
+    let Some(span) = page_entries::first_unswept(p, table) else {
         roots[units::PHASE] = units::OFF;
-        return Answer::Swept(0, 0, 0);
-    }
-    let page = first.span.start.0;
+        return Ok(Accepted::Swept(0, 0, 0));
+    };
+    let page = span.start.0;
     let start = page as u64 + 1;
-    let swept = span_sweep::sweep(p, table, bits, first.span);
-    Answer::Swept(start, swept.freed, swept.returned)
+    let swept = span_sweep::sweep(p, table, bits, span);
+    Ok(Accepted::Swept(start, swept.freed, swept.returned))
 }

@@ -1,31 +1,30 @@
 -- Refused, ended, or the first unswept span swept.
 use native.Mathlib.Omega.{arith}
-use Rattle.span_sweep.specs.Needs.{SpanRead}
+use Rattle.model.specs.Memory.{lent}
+use Rattle.model.specs.Cycle.{sweep_step}
+use Rattle.root_checks.proofs.Passed.{call_refused}
 use Rattle.span_sweep.proofs.Bounds.{bounds}
-use Rattle.call_cycle_sweep.proofs.SweepStep.{readable, step_refused, step_ended, step_swept}
+use Rattle.call_cycle_sweep.proofs.SweepStep.{readable, step_ended, step_swept}
 use Rattle.call_cycle_sweep.proofs.sweep_step.Goals as goal
 
-pub returns-then-roots-ne-SWEEP : goal.returns-then-roots-ne-SWEEP
-returns-then-roots-ne-SWEEP c =
-    let a = c.args in
-    λ arena. step_refused a.p a.table.now a.bits.now a.roots.now arena c.if-roots-ne-SWEEP.true
+pub returns-in_err-check_phase : goal.returns-in_err-check_phase
+unfolding sweep_step
+returns-in_err-check_phase c =
+    let e = c.args in
+    λ a. call_refused _ _ c.from_residual.ensures.1 (lent e.p a e.table.now e.bits.now e.roots.now) (c.in_err-check_phase.ensures e.p a e.table.now e.bits.now) _ _
 
-pub returns-then-not-found : goal.returns-then-not-found
-returns-then-not-found c =
-    let a = c.args in
-    λ arena. step_ended a.p a.table.now a.bits.now a.roots.now arena c.if-roots-ne-SWEEP.false _ c.first_unswept-first.ensures c.if-not-found.true
+pub returns-in_default : goal.returns-in_default
+returns-in_default c =
+    let e = c.args in
+    λ a. step_ended (lent e.p a e.table.now e.bits.now e.roots.now) (c.in_ok-check_phase.ensures e.p a e.table.now e.bits.now) c.in_default.ensures
 
 pub overflow_add-start : goal.overflow_add-start
-overflow_add-start c =
-    let read : SpanRead c.args.p c.args.table.now c.args.bits.now c.first_unswept-first.result.span = readable c.requires.1 c.first_unswept-first.ensures c.if-not-found.false in
-    omega (arith, bounds read.sweepable)
+overflow_add-start c = omega (arith, bounds (readable c.requires.1 c.in-Some.ensures).sweepable)
 
 pub sweep-swept-requires : goal.sweep-swept-requires
-sweep-swept-requires c =
-    let read : SpanRead c.args.p c.args.table.now c.args.bits.now c.first_unswept-first.result.span = readable c.requires.1 c.first_unswept-first.ensures c.if-not-found.false in
-    read
+sweep-swept-requires c = readable c.requires.1 c.in-Some.ensures
 
 pub returns : goal.returns
 returns c =
-    let a = c.args in
-    λ arena. step_swept a.p a.table.now a.bits.now a.roots.now arena c.if-roots-ne-SWEEP.false _ c.first_unswept-first.ensures c.if-not-found.false (c.sweep-swept.ensures arena a.roots.now)
+    let e = c.args in
+    λ a. step_swept (lent e.p a e.table.now e.bits.now e.roots.now) (c.in_ok-check_phase.ensures e.p a e.table.now e.bits.now) c.in-Some.ensures (c.sweep-swept.ensures a e.roots.now)
