@@ -4,7 +4,7 @@ use Rattle.trace_line.proofs.Outcomes.{plays_refused, plays_setup}
 use Rattle.trace_line.proofs.set_up.Goals as goal
 
 pub returns-then-not-in_reach : goal.returns-then-not-in_reach
-returns-then-not-in_reach c = plays_refused _ c.args.p (sym c.if-not-in_reach.ensures) c.write_answer-e.ensures
+returns-then-not-in_reach c = plays_refused _ c.args.p (sym c.if-not-in_reach.ensures) (rw c.from.ensures at c.write_answer-e.ensures)
 
 pub returns : goal.returns
 returns c = plays_setup _ c.args.p (sym c.if-not-in_reach.ensures) c.make-answer.ensures c.is_accepted-more.ensures c.write_answer-e-2.ensures
