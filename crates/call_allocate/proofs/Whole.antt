@@ -23,10 +23,15 @@ use Rattle.model.specs.Room.{Sweeps}
 use Rattle.model.proofs.Sweeps.{allocate_sweeps_lem, last_is}
 use Rattle.model.proofs.Checks.{or_else_iff, allocate_passed, room_passed}
 use Rattle.keeps.proofs.Swept.{sweeps_kept}
-use Rattle.model.proofs.Outcomes.{refused}
+use Rattle.model.specs.Refusals.{refused}
+use Rattle.model.proofs.Outcomes.{refused as as_refused}
 use Rattle.page_runs.proofs.Allocate.{best_fits}
 use Rattle.page_entries.specs.Needs.{NewEntries}
-use Rattle.record_room.specs.Needs.{Found, PlaceFor}
+use Rattle.record_room.specs.Needs.{PlaceIn, Found, PlaceFor}
+use Rattle.classes.specs.Shape.{Shaped}
+use Rattle.model.specs.declared.Refusal.{Refusal}
+use Rattle.std.specs.Prelude.{Result, Ok}
+use Rattle.std.proofs.lemmas.Result.{IfOk-at_ok}
 use Rattle.record_room.specs.declared.RecordPlace.{RecordPlace}
 use Rattle.record_room.proofs.Room.{Suits, span_found}
 use Rattle.call_allocate.specs.Needs.{extended, ElementFor, ElementTaken}
@@ -83,8 +88,8 @@ table_is h kind n f w e g = rw (e, g) (go (ltb (span_with_room h kind) h.pages))
     go true = refl
     go false = let z : page_words * s / page_words ≡ s = omega arith in rw z
 
--- THE CALL on h, by the place r that was chosen and the page table t and the bitmaps b that the sweeps for it left
-module _ {h : Heap} (F : Audited h) (s i size p : ℕ) {r : RecordPlace} {t b : List ℕ} (D : PlaceFor s i size p h (lent h.pages h.arena t b h.roots) r) where
+-- THE CALL on h, by what was chosen for it and the page table t and the bitmaps b that the sweeps for it left
+module _ {h : Heap} (F : Audited h) {s i size p : ℕ} {r : Result RecordPlace Refusal} {t b : List ℕ} (D : PlaceFor s i size p h (lent h.pages h.arena t b h.roots) r) where
   abbrev kind : ℕ
   kind = kind_of size p
 
@@ -119,47 +124,48 @@ module _ {h : Heap} (F : Audited h) (s i size p : ℕ) {r : RecordPlace} {t b : 
   placed e m = rw (e, swept_is e) m
 
   -- refused: before any sweep, or after all of them
-  pub refused_meets : r.refusal ≢ 0 → Meets (allocate h s i size p) (Refused r.refusal) h.arena t b h.roots
+  pub refused_meets : refused r ≢ 0 → Meets (allocate h s i size p) (Refused (refused r)) h.arena t b h.roots
   unfolding allocate place_record ◌or_else◌ allocate_sweeps last_of
   refused_meets d = go (eqb (allocate_refusal h s i size p) 0) refl
     where
-      go : (c : Bool) → eqb (allocate_refusal h s i size p) 0 ≡ c → Meets (allocate h s i size p) (Refused r.refusal) h.arena t b h.roots
-      go true q = let e = eqb-true (allocate_refusal h s i size p) 0 q in placed e (refused (room_refusal g kind n) g _ _ (rw q at found.number) d)
+      go : (c : Bool) → eqb (allocate_refusal h s i size p) 0 ≡ c → Meets (allocate h s i size p) (Refused (refused r)) h.arena t b h.roots
+      go true q = let e = eqb-true (allocate_refusal h s i size p) 0 q in placed e (as_refused (room_refusal g kind n) g _ _ (rw q at found.number) d)
       go false q =
           let X = rw q at D.found in
-          rw (X.table, X.bits) (refused (allocate_refusal h s i size p) h _ _ X.number d)
+          rw (X.table, X.bits) (as_refused (allocate_refusal h s i size p) h _ _ X.number d)
 
-  -- what is known where the allocation is accepted
-  pub record Accepted : Type 0 where
+  -- what is known where the allocation is accepted, with this place
+  pub record Accepted (place : RecordPlace) : Type 0 where
     pub number : allocate_refusal h s i size p ≡ 0
     pub room : room_refusal g kind n ≡ 0
     pub stack : s < stack_count
     pub slot : i < slot_count
-    pub word : r.word.0 ≡ new_word g kind n
-    pub extends : r.fresh ≡ true → NewEntries t (page_of r.word.0) (pages_for size)
-    pub takes : ElementFor h.pages r.word.0 (element_words_of (class_of size) (pages_for size)) p (slot_at s i) h.arena b h.roots
-    pub table : extended r.fresh r.word.0 (pages_for size) (kind_of size p) t ≡ new_table g kind n
+    pub word : place.word.0 ≡ new_word g kind n
+    pub shaped : Shaped size p place.shape
+    pub extends : place.fresh ≡ true → NewEntries t (page_of place.word.0) (pages_for size)
+    pub takes : ElementFor h.pages place.word.0 (element_words_of (class_of size) (pages_for size)) p (slot_at s i) h.arena b h.roots
+    pub table : extended place.fresh place.word.0 (pages_for size) (kind_of size p) t ≡ new_table g kind n
 
   -- no refusal in the row
   both : (x y : ℕ) → (x or_else y) ≡ 0 → (x ≡ 0) × (y ≡ 0)
   both x y e = (or_else_iff x y).0 e
 
-  pub accepted_facts : r.refusal ≡ 0 → Accepted
-  accepted_facts z =
-      let x = both (allocate_refusal h s i size p) (room_refusal g kind n) (sym found.number ∙ z) in
+  pub accepted_facts : {place : RecordPlace} → r ≡ Ok place → Accepted place
+  accepted_facts {place} q =
+      let P : PlaceIn g kind n place = IfOk-at_ok (PlaceIn g kind n) q found.place in
+      let x = both (allocate_refusal h s i size p) (room_refusal g kind n) (sym found.number ∙ ap refused q) in
       let A = allocate_passed h s i size p x.0 in
       let room = room_passed g kind n x.1 in
       let K = takes size p A.some A.limit A.pointers in
-      let v = found.word z in
-      let e = found.fresh z in
-      let inside : r.word.0 + element_words_of (class_of size) (pages_for size) ≤ page_words * h.pages = rw v (new_inside G size p A.some A.limit A.pointers room) in
+      let inside : place.word.0 + element_words_of (class_of size) (pages_for size) ≤ page_words * h.pages = rw P.word (new_inside G size p A.some A.limit A.pointers room) in
       record {
         number = x.0;
         room = x.1;
         stack = A.stack.below;
         slot = A.slot;
-        word = v;
-        extends = new_extends G size p A.some A.limit A.pointers r.fresh r.word.0 e v room;
+        word = P.word;
+        shaped = IfOk-at_ok (λ place. Shaped size p place.shape) q D.shaped;
+        extends = new_extends G size p A.some A.limit A.pointers place.fresh place.word.0 P.fresh P.word room;
         takes = record {
           marks = record {
             bitmaps = record { few = G.sized.high; bits = G.sized.bits };
@@ -170,16 +176,17 @@ module _ {h : Heap} (F : Audited h) (s i size p : ℕ) {r : RecordPlace} {t b : 
           inside = omega (arith, inside, F.sized.arena);
           slot = omega (arith, A.stack.below, A.slot);
         };
-        table = table_is g kind n r.fresh r.word.0 e v;
+        table = table_is g kind n place.fresh place.word.0 P.fresh P.word;
       }
 
   -- the element taken and the table extended meet the outcome
-  pub accepted_meets : Accepted → {v : ℕ} {a u c o : List ℕ} {k : ℕ} → let x = r.shape in
-      u ≡ extended r.fresh r.word.0 x.pages x.kind t → k ≡ slot_at s i → ElementTaken (lent h.pages h.arena t b h.roots) r.word.0 x.words p k v a c o →
+  pub accepted_meets : {place : RecordPlace} → r ≡ Ok place → {v : ℕ} {a u c o : List ℕ} {k : ℕ} → let x = place.shape in
+      u ≡ extended place.fresh place.word.0 x.pages x.kind t → k ≡ slot_at s i → ElementTaken (lent h.pages h.arena t b h.roots) place.word.0 x.words p k v a c o →
       Meets (allocate h s i size p) (Value v) a u c o
   unfolding place_record
-  accepted_meets A q e K =
-      let X = D.shaped in
+  accepted_meets {place} z q e K =
+      let A = accepted_facts {place = place} z in
+      let X = A.shaped in
       placed A.number (rw (A.room, ← A.word) (record {
         answer = ap Value K.value;
         listed = ap (λ x. numbers (Value x)) K.value;

@@ -6,11 +6,12 @@ ghost use Rattle.std.specs.Prelude.{true, ◌≡◌};
 ghost use Rattle.model.specs.Memory.{page_of};
 ghost use Rattle.model.specs.Allocate.{new_bits, allocate};
 ghost use Rattle.model.specs.Promises.{AuditedHeap, Does, ByBitsAndRoots, exclusive, shared};
+ghost use Rattle.model.specs.Refusals.{answered};
 ghost use Rattle.page_entries.specs.Needs.{NewEntries};
 ghost use Rattle.call_allocate.specs.Needs.{extended, MarksNew, CanTake, TakesElement};
 
 use classes::Shape;
-use model::Answer;
+use model::{Accepted, Refusal};
 use units::{Address, Word};
 
 // Makes the span of a record of this shape at word w, if it is still to be made.
@@ -18,10 +19,9 @@ fn extend(table: &mut [u32], fresh: bool, w: Word, shape: Shape)
     requires { fresh ≡ true → NewEntries table.old (page_of w.0) shape.pages }
     ensures { table.new ≡ extended fresh w.0 shape.pages shape.kind table.old }
 {
-    if !fresh {
-        return;
+    if fresh {
+        page_entries::write_span(table, w.page(), shape.pages, shape.kind);
     }
-    page_entries::write_span(table, w.page(), shape.pages, shape.kind);
 }
 
 // The bits of a new record: allocated, its pointer words, and marked in the mark phase. They do not
@@ -72,21 +72,17 @@ pub fn allocate(
     i: u64,
     size: u64,
     pointers: u64,
-) -> Answer
+) -> Result<Accepted, Refusal>
     requires { AuditedHeap p arena.old table.old bits.old roots.old }
     ensures { Does (λ h. allocate h s i size pointers) p (exclusive arena) (exclusive table)
-        (exclusive bits) (exclusive roots) result }
+        (exclusive bits) (exclusive roots) (answered result) }
 {
-    let place = record_room::choose(p, table, bits, roots, s, i, size, pointers);
-    let refusal = place.refusal;
-    if refusal != 0 {
-        return Answer::Refused(refusal);
-    }
+    let place = record_room::choose(p, table, bits, roots, s, i, size, pointers)?;
     let w = place.word;
     let shape = place.shape;
     extend(table, place.fresh, w, shape);
     let slot = root_checks::slot_at(s, i);
     let words = shape.words;
     let address = take(p, arena, bits, roots, w, words, pointers as usize, slot);
-    Answer::Value(address.0)
+    Ok(Accepted::Value(address.0))
 }
