@@ -36,7 +36,8 @@ fn pointer_word(
     }
 }
 
-// Number word f of the record in slot j of stack s.
+// Number word f of the record in slot j of stack s. Not one function with pointer_word: each lets the
+// one kind through that its calls name, and refuses the other.
 fn number_word(
     p: usize,
     table: &[u32],

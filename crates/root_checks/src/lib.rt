@@ -49,7 +49,8 @@ pub fn check_open(roots: &[u64], s: u64) -> Result<(), Refusal>
     Ok(())
 }
 
-// The stack must be closed.
+// The stack must be closed. Not one function with check_open: a flag would not say at the calls which
+// of the two must hold.
 pub fn check_closed(roots: &[u64], s: u64) -> Result<(), Refusal>
     requires { Roots roots.now }
     ensures refusal { GivesByRoots (λ h. closed_refusal h s) (shared roots) (refused result) }
