@@ -4,8 +4,9 @@
 
 ghost use Rattle.model.specs.Calls.{does};
 ghost use Rattle.model.specs.Promises.{Does, Entered, exclusive};
+ghost use Rattle.model.specs.Refusals.{answered};
 
-use model::{Answer, Call};
+use model::{Accepted, Call, Refusal};
 
 // The call on the four buffers of p pages.
 pub fn make(
@@ -15,14 +16,15 @@ pub fn make(
     bits: &mut [u64],
     roots: &mut [u64],
     call: Call,
-) -> Answer
+) -> Result<Accepted, Refusal>
     requires { Entered call p arena.old table.old bits.old roots.old }
-    ensures { Does (λ h. does h call) p (exclusive arena) (exclusive table) (exclusive bits) (exclusive roots) result }
+    ensures { Does (λ h. does h call) p (exclusive arena) (exclusive table)
+        (exclusive bits) (exclusive roots) (answered result) }
 {
     let n = p as usize;
     match call {
-        Call::Setup => call_setup::setup(table, bits, roots),
-        Call::Audit => Answer::Done,
+        Call::Setup => Ok(call_setup::setup(table, bits, roots)),
+        Call::Audit => Ok(Accepted::Done),
         Call::Open(s) => call_stacks::open_stack(roots, s),
         Call::Close(s) => call_stacks::close_stack(roots, s),
         Call::Allocate(s, i, size, pointers) => {
