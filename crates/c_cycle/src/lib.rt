@@ -7,7 +7,6 @@ ghost use Rattle.c_answer.specs.Exported.{Exports};
 ghost use Rattle.model.specs.Promises.{exclusive, shared};
 
 use c_answer::write_answer;
-use model::Answer;
 
 #[unsafe(no_mangle)]
 pub extern "C" fn heap_start(
@@ -20,9 +19,8 @@ pub extern "C" fn heap_start(
 ) -> u64
     ensures { Exports Start p (shared arena) (shared table) (shared bits) (exclusive roots) (exclusive out) result }
 {
-    let refusal = audit::entry(p, arena, table, bits, roots);
-    if refusal != 0 {
-        return write_answer(Answer::Refused(refusal), out);
+    if let Err(refusal) = audit::entry(p, arena, table, bits, roots) {
+        return write_answer(Err(refusal), out);
     }
     let answer = call_cycle_roots::start(roots);
     write_answer(answer, out)
@@ -41,9 +39,8 @@ pub extern "C" fn heap_scan_stack(
     ensures { Exports (ScanStack s) p (shared arena) (shared table) (exclusive bits)
         (exclusive roots) (exclusive out) result }
 {
-    let refusal = audit::entry(p, arena, table, bits, roots);
-    if refusal != 0 {
-        return write_answer(Answer::Refused(refusal), out);
+    if let Err(refusal) = audit::entry(p, arena, table, bits, roots) {
+        return write_answer(Err(refusal), out);
     }
     let answer = call_cycle_roots::scan_stack(p as usize, table, bits, roots, s);
     write_answer(answer, out)
@@ -61,9 +58,8 @@ pub extern "C" fn heap_scan_globals(
     ensures { Exports ScanGlobals p (shared arena) (shared table) (exclusive bits)
         (exclusive roots) (exclusive out) result }
 {
-    let refusal = audit::entry(p, arena, table, bits, roots);
-    if refusal != 0 {
-        return write_answer(Answer::Refused(refusal), out);
+    if let Err(refusal) = audit::entry(p, arena, table, bits, roots) {
+        return write_answer(Err(refusal), out);
     }
     let answer = call_cycle_roots::scan_globals(p as usize, table, bits, roots);
     write_answer(answer, out)
@@ -80,9 +76,8 @@ pub extern "C" fn heap_mark_step(
 ) -> u64
     ensures { Exports MarkStep p (shared arena) (shared table) (exclusive bits) (shared roots) (exclusive out) result }
 {
-    let refusal = audit::entry(p, arena, table, bits, roots);
-    if refusal != 0 {
-        return write_answer(Answer::Refused(refusal), out);
+    if let Err(refusal) = audit::entry(p, arena, table, bits, roots) {
+        return write_answer(Err(refusal), out);
     }
     let answer = call_cycle_marks::mark_step(p as usize, arena, table, bits, roots);
     write_answer(answer, out)
@@ -99,9 +94,8 @@ pub extern "C" fn heap_finish(
 ) -> u64
     ensures { Exports Finish p (shared arena) (exclusive table) (shared bits) (exclusive roots) (exclusive out) result }
 {
-    let refusal = audit::entry(p, arena, table, bits, roots);
-    if refusal != 0 {
-        return write_answer(Answer::Refused(refusal), out);
+    if let Err(refusal) = audit::entry(p, arena, table, bits, roots) {
+        return write_answer(Err(refusal), out);
     }
     let answer = call_cycle_marks::finish(p as usize, table, bits, roots);
     write_answer(answer, out)
@@ -119,9 +113,8 @@ pub extern "C" fn heap_sweep_step(
     ensures { Exports SweepStep p (shared arena) (exclusive table) (exclusive bits)
         (exclusive roots) (exclusive out) result }
 {
-    let refusal = audit::entry(p, arena, table, bits, roots);
-    if refusal != 0 {
-        return write_answer(Answer::Refused(refusal), out);
+    if let Err(refusal) = audit::entry(p, arena, table, bits, roots) {
+        return write_answer(Err(refusal), out);
     }
     let answer = call_cycle_sweep::sweep_step(p as usize, table, bits, roots);
     write_answer(answer, out)

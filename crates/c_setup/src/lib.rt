@@ -11,7 +11,7 @@ ghost use Rattle.c_answer.specs.Exported.{Exports};
 ghost use Rattle.model.specs.Promises.{exclusive, shared};
 
 use c_answer::write_answer;
-use model::Answer;
+use model::Accepted;
 
 #[unsafe(no_mangle)]
 pub extern "C" fn heap_setup(
@@ -25,12 +25,11 @@ pub extern "C" fn heap_setup(
     ensures { Exports Setup p (shared arena) (exclusive table) (exclusive bits) (exclusive roots)
         (exclusive out) result }
 {
-    let refusal = audit::buffers_refusal(p, arena, table, bits, roots);
-    if refusal != 0 {
-        return write_answer(Answer::Refused(refusal), out);
+    if let Err(refusal) = audit::check_buffers(p, arena, table, bits, roots) {
+        return write_answer(Err(refusal), out);
     }
-    let answer = call_setup::setup(table, bits, roots);
-    write_answer(answer, out)
+    let told = call_setup::setup(table, bits, roots);
+    write_answer(Ok(told), out)
 }
 
 #[unsafe(no_mangle)]
@@ -44,9 +43,9 @@ pub extern "C" fn heap_audit(
 ) -> u64
     ensures { Exports Audit p (shared arena) (shared table) (shared bits) (shared roots) (exclusive out) result }
 {
-    let refusal = audit::entry(p, arena, table, bits, roots);
-    if refusal != 0 {
-        return write_answer(Answer::Refused(refusal), out);
+    if let Err(refusal) = audit::entry(p, arena, table, bits, roots) {
+        return write_answer(Err(refusal), out);
     }
-    write_answer(Answer::Done, out)
+    let told = Accepted::Done;
+    write_answer(Ok(told), out)
 }

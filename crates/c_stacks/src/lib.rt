@@ -7,7 +7,6 @@ ghost use Rattle.c_answer.specs.Exported.{Exports};
 ghost use Rattle.model.specs.Promises.{exclusive, shared};
 
 use c_answer::write_answer;
-use model::Answer;
 
 #[unsafe(no_mangle)]
 pub extern "C" fn heap_open(
@@ -21,9 +20,8 @@ pub extern "C" fn heap_open(
 ) -> u64
     ensures { Exports (Open s) p (shared arena) (shared table) (shared bits) (exclusive roots) (exclusive out) result }
 {
-    let refusal = audit::entry(p, arena, table, bits, roots);
-    if refusal != 0 {
-        return write_answer(Answer::Refused(refusal), out);
+    if let Err(refusal) = audit::entry(p, arena, table, bits, roots) {
+        return write_answer(Err(refusal), out);
     }
     let answer = call_stacks::open_stack(roots, s);
     write_answer(answer, out)
@@ -41,9 +39,8 @@ pub extern "C" fn heap_close(
 ) -> u64
     ensures { Exports (Close s) p (shared arena) (shared table) (shared bits) (exclusive roots) (exclusive out) result }
 {
-    let refusal = audit::entry(p, arena, table, bits, roots);
-    if refusal != 0 {
-        return write_answer(Answer::Refused(refusal), out);
+    if let Err(refusal) = audit::entry(p, arena, table, bits, roots) {
+        return write_answer(Err(refusal), out);
     }
     let answer = call_stacks::close_stack(roots, s);
     write_answer(answer, out)
@@ -64,9 +61,8 @@ pub extern "C" fn heap_copy(
     ensures { Exports (Copy s i j) p (shared arena) (shared table) (shared bits) (exclusive roots)
         (exclusive out) result }
 {
-    let refusal = audit::entry(p, arena, table, bits, roots);
-    if refusal != 0 {
-        return write_answer(Answer::Refused(refusal), out);
+    if let Err(refusal) = audit::entry(p, arena, table, bits, roots) {
+        return write_answer(Err(refusal), out);
     }
     let answer = call_stacks::copy(roots, s, i, j);
     write_answer(answer, out)
@@ -86,9 +82,8 @@ pub extern "C" fn heap_clear(
     ensures { Exports (Clear s i) p (shared arena) (shared table) (shared bits) (exclusive roots)
         (exclusive out) result }
 {
-    let refusal = audit::entry(p, arena, table, bits, roots);
-    if refusal != 0 {
-        return write_answer(Answer::Refused(refusal), out);
+    if let Err(refusal) = audit::entry(p, arena, table, bits, roots) {
+        return write_answer(Err(refusal), out);
     }
     let answer = call_stacks::clear(roots, s, i);
     write_answer(answer, out)
@@ -109,9 +104,8 @@ pub extern "C" fn heap_load_global(
     ensures { Exports (LoadGlobal s i g) p (shared arena) (shared table) (shared bits)
         (exclusive roots) (exclusive out) result }
 {
-    let refusal = audit::entry(p, arena, table, bits, roots);
-    if refusal != 0 {
-        return write_answer(Answer::Refused(refusal), out);
+    if let Err(refusal) = audit::entry(p, arena, table, bits, roots) {
+        return write_answer(Err(refusal), out);
     }
     let answer = call_stacks::load_global(roots, s, i, g);
     write_answer(answer, out)

@@ -1,30 +1,16 @@
 -- `heap_scan_globals`: the entry check, then the audited call; the answer of either is written out.
-use mathlib.Core.Path.{refl, sym, ◌∙◌}
+use mathlib.Core.Path.{sym}
 use Rattle.model.specs.declared.Call.TheVariants.{ScanGlobals}
 use Rattle.model.proofs.Checks.{entry_passed}
 use Rattle.model.proofs.Outcomes.{entered, not_entered}
+use Rattle.model.proofs.Refusals.{number_some}
 use Rattle.c_cycle.proofs.heap_scan_globals.Goals as goal
 
-pub entry-refusal-requires : goal.entry-refusal-requires
-entry-refusal-requires c = tt
-
-pub write_answer-requires : goal.write_answer-requires
-write_answer-requires c = tt
-
-pub shape_of-bits-then-refusal-ne0 : goal.shape_of-bits-then-refusal-ne0
-shape_of-bits-then-refusal-ne0 c = refl
-
-pub shape_of-roots-then-refusal-ne0 : goal.shape_of-roots-then-refusal-ne0
-shape_of-roots-then-refusal-ne0 c = refl
-
-pub returns-then-refusal-ne0 : goal.returns-then-refusal-ne0
-returns-then-refusal-ne0 c = (_, (not_entered _ ScanGlobals c.entry-refusal.ensures c.if-refusal-ne0.true, c.write_answer.ensures))
+pub returns-in-Err : goal.returns-in-Err
+returns-in-Err c = (_, (not_entered _ ScanGlobals c.in-Err.ensures (number_some _), c.write_answer.ensures))
 
 pub scan_globals-answer-requires : goal.scan_globals-answer-requires
-scan_globals-answer-requires c = (_, entry_passed _ (sym c.entry-refusal.ensures ∙ c.if-refusal-ne0.false))
-
-pub write_answer-requires-2 : goal.write_answer-requires-2
-write_answer-requires-2 c = tt
+scan_globals-answer-requires c = (_, entry_passed _ (sym c.in_default.ensures))
 
 pub returns : goal.returns
-returns c = (_, (entered _ ScanGlobals (sym c.entry-refusal.ensures ∙ c.if-refusal-ne0.false) (c.scan_globals-answer.ensures _), c.write_answer-2.ensures))
+returns c = (_, (entered _ ScanGlobals (sym c.in_default.ensures) (c.scan_globals-answer.ensures _), c.write_answer-2.ensures))
