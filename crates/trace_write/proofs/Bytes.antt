@@ -26,11 +26,11 @@ same : (n : ℕ) → n < 2 ^ 64 → decimal n ≡ std_decimal n
 unfolding decimal
 same n l = decimal_from_appends decimal_in appends 20 n l (length-decimal-le 20 n (omega arith) (omega arith) l)
 
-pub decimal_digit : (n : ℕ) → n < 10 → decimal n ≡ (48 + n) ∷ []
+decimal_digit : (n : ℕ) → n < 10 → decimal n ≡ (48 + n) ∷ []
 unfolding decimal
 decimal_digit n h = appends.one 19 n h
 
-pub decimal_step : (n : ℕ) → 10 ≤ n → n < 2 ^ 64 → decimal n ≡ decimal (n / 10) ++ ((48 + n % 10) ∷ [])
+decimal_step : (n : ℕ) → 10 ≤ n → n < 2 ^ 64 → decimal n ≡ decimal (n / 10) ++ ((48 + n % 10) ∷ [])
 decimal_step n h l = rw (same n l, same (n / 10) (omega arith)) (std_decimal_step n h l)
 
 -- .. and its length
@@ -70,6 +70,15 @@ byte a at b = record { buffer = refl; end = refl }
 
 pub byte_then : {ys : List ℕ} {a c : List ℕ} {r : ℕ} (at b : ℕ) → Wrote ys (at + 1) (set a at b) c r → Wrote (b ∷ ys) at a c r
 byte_then {ys} {a} {c} {r} at b w = record { buffer = w.buffer ∙ rw add-one; end = omega (arith, w.end) }
+
+-- the digits of a number, one by one
+pub one_digit : (a : List ℕ) (at n : ℕ) → n < 10 → Wrote (decimal n) at a (set a at (48 + n)) (at + 1)
+one_digit a at n h = rw (decimal_digit n h) (byte a at (48 + n))
+
+pub last_digit : (n : ℕ) {a b : List ℕ} {at e : ℕ} → 10 ≤ n → n < 2 ^ 64 → Wrote (decimal (n / 10)) at a b e → Wrote (decimal n) at a (set b e (48 + n % 10)) (e + 1)
+last_digit n h l w = rw (decimal_step n h l) (then w (byte _ _ _))
+
+pub ruleset digit_by_digit = (length_digit, length_step, one_digit, last_digit)
 
 -- bytes copied over a part of a buffer
 pub copied : (a k : ℕ) (l xs ys : List ℕ) → ys ≡ xs → k ≡ length xs → a + length xs ≤ length l → put_mid a k l ys ≡ sets l a xs

@@ -13,7 +13,7 @@ pub const LONGEST: usize = 66;
 
 // The digits of n, without a leading zero.
 // Not by Display: write! may fail, and promises its bytes of an Ok alone.
-#[tactic(auto, using(crate::proofs::Bytes::length_digit, crate::proofs::Bytes::length_step))]
+#[tactic(auto, using(crate::proofs::Bytes::digit_by_digit))]
 fn write_decimal(out: &mut [u8], at: usize, n: u64) -> usize
     requires { at + length (decimal n) ≤ length out.old }
     ensures { Wrote (decimal n) at out.old out.new result }
