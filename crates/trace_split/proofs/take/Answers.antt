@@ -9,12 +9,12 @@ loop-i-init c = none_copied c.args.line.now c.args.used c.args.block.now c.args.
 pub returns-then-b-eq-LINE_FEED : goal.returns-then-b-eq-LINE_FEED
 returns-then-b-eq-LINE_FEED c =
     let a = c.args in
-    line_ends a.line.now a.used a.block.now a.from c.loop-i.invariant c.loop-i-test.true c.if-b-eq-LINE_FEED.true
+    line_ends a.line.now a.used a.block.now a.from c.loop-i.invariant c.loop-i-test.true (omega arith)
 
 pub returns-then-at-eq-LONGEST : goal.returns-then-at-eq-LONGEST
 returns-then-at-eq-LONGEST c =
     let a = c.args in
-    too_long a.line.now a.used a.block.now a.from c.loop-i.invariant c.loop-i-test.true c.if-b-eq-LINE_FEED.false c.if-at-eq-LONGEST.true
+    too_long a.line.now a.used a.block.now a.from c.loop-i.invariant c.loop-i-test.true c.if-b-eq-LINE_FEED.false (omega arith)
 
 pub loop-i-preserved : goal.loop-i-preserved
 loop-i-preserved c =
