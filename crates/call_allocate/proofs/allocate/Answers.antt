@@ -1,5 +1,6 @@
 -- `call_allocate::allocate` meets its contract: refused, or the place that was chosen made and taken.
 use mathlib.Core.Path.{refl}
+use native.Mathlib.Omega.{arith}
 use Rattle.std.proofs.lemmas.Result.{err_from_is_err_and}
 use Rattle.model.proofs.Refusals.{number_some}
 use Rattle.call_allocate.proofs.Whole.{refused_meets, accepted_facts, accepted_meets}
@@ -24,7 +25,7 @@ slot_at-slot-requires c = let facts = accepted_facts c.requires (c.in_ok-place.e
 pub take-address-requires : goal.take-address-requires
 take-address-requires c =
     let facts = accepted_facts c.requires (c.in_ok-place.ensures c.args.arena.now c.requires) refl in
-    rw (c.slot_at-slot.ensures, facts.shaped.words) facts.takes
+    record { marks = facts.takes.marks; inside = omega (arith, facts.takes.inside, facts.shaped.words); slot = rw c.slot_at-slot.ensures facts.takes.slot }
 
 pub returns : goal.returns
 returns c =
