@@ -8,7 +8,6 @@ ghost use Rattle.c_answer.specs.Exported.{Exports};
 ghost use Rattle.model.specs.Promises.{exclusive, shared};
 
 use c_answer::write_answer;
-use model::Answer;
 
 #[unsafe(no_mangle)]
 pub extern "C" fn heap_alloc(
@@ -26,9 +25,8 @@ pub extern "C" fn heap_alloc(
     ensures { Exports (Allocate s i size pointers) p (exclusive arena) (exclusive table)
         (exclusive bits) (exclusive roots) (exclusive out) result }
 {
-    let refusal = audit::entry(p, arena, table, bits, roots);
-    if refusal != 0 {
-        return write_answer(Answer::Refused(refusal), out);
+    if let Err(refusal) = audit::entry(p, arena, table, bits, roots) {
+        return write_answer(Err(refusal), out);
     }
     let answer = call_allocate::allocate(
         p as usize, arena, table, bits, roots, s, i, size, pointers,
@@ -52,9 +50,8 @@ pub extern "C" fn heap_load(
     ensures { Exports (Load s i j f) p (shared arena) (shared table) (shared bits)
         (exclusive roots) (exclusive out) result }
 {
-    let refusal = audit::entry(p, arena, table, bits, roots);
-    if refusal != 0 {
-        return write_answer(Answer::Refused(refusal), out);
+    if let Err(refusal) = audit::entry(p, arena, table, bits, roots) {
+        return write_answer(Err(refusal), out);
     }
     let answer = call_records::load(p as usize, arena, table, bits, roots, s, i, j, f);
     write_answer(answer, out)
@@ -76,9 +73,8 @@ pub extern "C" fn heap_store(
     ensures { Exports (Store s j f k) p (exclusive arena) (shared table) (exclusive bits)
         (shared roots) (exclusive out) result }
 {
-    let refusal = audit::entry(p, arena, table, bits, roots);
-    if refusal != 0 {
-        return write_answer(Answer::Refused(refusal), out);
+    if let Err(refusal) = audit::entry(p, arena, table, bits, roots) {
+        return write_answer(Err(refusal), out);
     }
     let answer = call_records::store(p as usize, arena, table, bits, roots, s, j, f, k);
     write_answer(answer, out)
@@ -100,9 +96,8 @@ pub extern "C" fn heap_put(
     ensures { Exports (Put s j f v) p (exclusive arena) (shared table) (shared bits) (shared roots)
         (exclusive out) result }
 {
-    let refusal = audit::entry(p, arena, table, bits, roots);
-    if refusal != 0 {
-        return write_answer(Answer::Refused(refusal), out);
+    if let Err(refusal) = audit::entry(p, arena, table, bits, roots) {
+        return write_answer(Err(refusal), out);
     }
     let answer = call_records::put(p as usize, arena, table, bits, roots, s, j, f, v);
     write_answer(answer, out)
@@ -122,9 +117,8 @@ pub extern "C" fn heap_get(
 ) -> u64
     ensures { Exports (Get s j f) p (shared arena) (shared table) (shared bits) (shared roots) (exclusive out) result }
 {
-    let refusal = audit::entry(p, arena, table, bits, roots);
-    if refusal != 0 {
-        return write_answer(Answer::Refused(refusal), out);
+    if let Err(refusal) = audit::entry(p, arena, table, bits, roots) {
+        return write_answer(Err(refusal), out);
     }
     let answer = call_records::get(p as usize, arena, table, bits, roots, s, j, f);
     write_answer(answer, out)
@@ -145,9 +139,8 @@ pub extern "C" fn heap_store_global(
     ensures { Exports (StoreGlobal s g i) p (shared arena) (shared table) (exclusive bits)
         (exclusive roots) (exclusive out) result }
 {
-    let refusal = audit::entry(p, arena, table, bits, roots);
-    if refusal != 0 {
-        return write_answer(Answer::Refused(refusal), out);
+    if let Err(refusal) = audit::entry(p, arena, table, bits, roots) {
+        return write_answer(Err(refusal), out);
     }
     let answer = call_records::store_global(p as usize, table, bits, roots, s, g, i);
     write_answer(answer, out)

@@ -1,27 +1,16 @@
 -- `heap_load`: the entry check, then the audited call; the answer of either is written out.
-use mathlib.Core.Path.{refl, sym, ◌∙◌}
+use mathlib.Core.Path.{sym}
 use Rattle.model.specs.declared.Call.TheVariants.{Load}
 use Rattle.model.proofs.Checks.{entry_passed}
 use Rattle.model.proofs.Outcomes.{entered, not_entered}
+use Rattle.model.proofs.Refusals.{number_some}
 use Rattle.c_records.proofs.heap_load.Goals as goal
 
-pub entry-refusal-requires : goal.entry-refusal-requires
-entry-refusal-requires c = tt
-
-pub write_answer-requires : goal.write_answer-requires
-write_answer-requires c = tt
-
-pub shape_of-roots-then-refusal-ne0 : goal.shape_of-roots-then-refusal-ne0
-shape_of-roots-then-refusal-ne0 c = refl
-
-pub returns-then-refusal-ne0 : goal.returns-then-refusal-ne0
-returns-then-refusal-ne0 c = (_, (not_entered _ (Load _ _ _ _) c.entry-refusal.ensures c.if-refusal-ne0.true, c.write_answer.ensures))
+pub returns-in-Err : goal.returns-in-Err
+returns-in-Err c = (_, (not_entered _ (Load _ _ _ _) c.in-Err.ensures (number_some _), c.write_answer.ensures))
 
 pub load-answer-requires : goal.load-answer-requires
-load-answer-requires c = entry_passed _ (sym c.entry-refusal.ensures ∙ c.if-refusal-ne0.false)
-
-pub write_answer-requires-2 : goal.write_answer-requires-2
-write_answer-requires-2 c = tt
+load-answer-requires c = entry_passed _ (sym c.in_default.ensures)
 
 pub returns : goal.returns
-returns c = (_, (entered _ (Load _ _ _ _) (sym c.entry-refusal.ensures ∙ c.if-refusal-ne0.false) c.load-answer.ensures, c.write_answer-2.ensures))
+returns c = (_, (entered _ (Load _ _ _ _) (sym c.in_default.ensures) c.load-answer.ensures, c.write_answer-2.ensures))

@@ -1,30 +1,16 @@
 -- `heap_store`: the entry check, then the audited call; the answer of either is written out.
-use mathlib.Core.Path.{refl, sym, ◌∙◌}
+use mathlib.Core.Path.{sym}
 use Rattle.model.specs.declared.Call.TheVariants.{Store}
 use Rattle.model.proofs.Checks.{entry_passed}
 use Rattle.model.proofs.Outcomes.{entered, not_entered}
+use Rattle.model.proofs.Refusals.{number_some}
 use Rattle.c_records.proofs.heap_store.Goals as goal
 
-pub entry-refusal-requires : goal.entry-refusal-requires
-entry-refusal-requires c = tt
-
-pub write_answer-requires : goal.write_answer-requires
-write_answer-requires c = tt
-
-pub shape_of-arena-then-refusal-ne0 : goal.shape_of-arena-then-refusal-ne0
-shape_of-arena-then-refusal-ne0 c = refl
-
-pub shape_of-bits-then-refusal-ne0 : goal.shape_of-bits-then-refusal-ne0
-shape_of-bits-then-refusal-ne0 c = refl
-
-pub returns-then-refusal-ne0 : goal.returns-then-refusal-ne0
-returns-then-refusal-ne0 c = (_, (not_entered _ (Store _ _ _ _) c.entry-refusal.ensures c.if-refusal-ne0.true, c.write_answer.ensures))
+pub returns-in-Err : goal.returns-in-Err
+returns-in-Err c = (_, (not_entered _ (Store _ _ _ _) c.in-Err.ensures (number_some _), c.write_answer.ensures))
 
 pub store-answer-requires : goal.store-answer-requires
-store-answer-requires c = entry_passed _ (sym c.entry-refusal.ensures ∙ c.if-refusal-ne0.false)
-
-pub write_answer-requires-2 : goal.write_answer-requires-2
-write_answer-requires-2 c = tt
+store-answer-requires c = entry_passed _ (sym c.in_default.ensures)
 
 pub returns : goal.returns
-returns c = (_, (entered _ (Store _ _ _ _) (sym c.entry-refusal.ensures ∙ c.if-refusal-ne0.false) c.store-answer.ensures, c.write_answer-2.ensures))
+returns c = (_, (entered _ (Store _ _ _ _) (sym c.in_default.ensures) c.store-answer.ensures, c.write_answer-2.ensures))
