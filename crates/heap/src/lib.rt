@@ -6,8 +6,9 @@
 ghost use Rattle.std.specs.Prelude.{◌≡◌};
 ghost use Rattle.model.specs.Calls.{asks_audit, entry_refusal};
 ghost use Rattle.model.specs.Promises.{found, Makes, exclusive, shared};
+ghost use Rattle.model.specs.Refusals.{refused, answered};
 
-use model::{Answer, Call};
+use model::{Accepted, Answer, Call, Refusal};
 
 // Every call but setup asks the audit.
 fn asks_audit(call: Call) -> bool
@@ -19,17 +20,40 @@ fn asks_audit(call: Call) -> bool
     }
 }
 
-// The entry check of a call: the refusal that comes before anything that it does, or 0.
-fn entry(p: u64, arena: &[u64], table: &[u32], bits: &[u64], roots: &[u64], call: Call) -> u64
-    ensures { result ≡ entry_refusal (found p (shared arena) (shared table) (shared bits) (shared roots)) call }
+// The entry check of a call: the refusal that comes before anything that it does.
+fn entry(
+    p: u64,
+    arena: &[u64],
+    table: &[u32],
+    bits: &[u64],
+    roots: &[u64],
+    call: Call,
+) -> Result<(), Refusal>
+    ensures { refused result ≡
+        entry_refusal (found p (shared arena) (shared table) (shared bits) (shared roots)) call }
 {
     if asks_audit(call) {
         return audit::entry(p, arena, table, bits, roots);
     }
-    audit::buffers_refusal(p, arena, table, bits, roots)
+    audit::check_buffers(p, arena, table, bits, roots)
 }
 
-// The call on the four buffers: the entry check, then the audited call.
+// The entry check, then the audited call.
+fn enter(
+    p: u64,
+    arena: &mut [u64],
+    table: &mut [u32],
+    bits: &mut [u64],
+    roots: &mut [u64],
+    call: Call,
+) -> Result<Accepted, Refusal>
+    ensures { Makes call p (exclusive arena) (exclusive table) (exclusive bits) (exclusive roots) (answered result) }
+{
+    entry(p, arena, table, bits, roots, call)?;
+    calls::make(p, arena, table, bits, roots, call)
+}
+
+// The call on the four buffers.
 pub fn make(
     p: u64,
     arena: &mut [u64],
@@ -40,9 +64,6 @@ pub fn make(
 ) -> Answer
     ensures { Makes call p (exclusive arena) (exclusive table) (exclusive bits) (exclusive roots) result }
 {
-    let refusal = entry(p, arena, table, bits, roots, call);
-    if refusal != 0 {
-        return Answer::Refused(refusal);
-    }
-    calls::make(p, arena, table, bits, roots, call)
+    let given = enter(p, arena, table, bits, roots, call);
+    Answer::from(given)
 }

@@ -1,5 +1,5 @@
 -- `heap_get`: the entry check, then the audited call; the answer of either is written out.
-use mathlib.Core.Path.{sym, ◌∙◌}
+use mathlib.Core.Path.{sym}
 use Rattle.model.specs.declared.Call.TheVariants.{Get}
 use Rattle.model.proofs.Checks.{entry_passed}
 use Rattle.model.proofs.Outcomes.{entered, not_entered}

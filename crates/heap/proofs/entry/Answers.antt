@@ -6,4 +6,4 @@ pub returns-then-asks_audit : goal.returns-then-asks_audit
 returns-then-asks_audit c = rw (sym c.asks_audit.ensures ∙ c.if-asks_audit.true) c.entry.ensures
 
 pub returns : goal.returns
-returns c = rw (sym c.asks_audit.ensures ∙ c.if-asks_audit.false) c.buffers_refusal.ensures
+returns c = rw (sym c.asks_audit.ensures ∙ c.if-asks_audit.false) c.check_buffers.ensures
