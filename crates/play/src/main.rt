@@ -24,7 +24,7 @@ const TABLE_NUMBERS: usize = units::ENTRY_NUMBERS * PAGES;
 
 const BITMAP_WORDS: usize = units::BITMAP_WORDS * PAGES;
 
-// How far the run is: P (0 before the first line), the lines played, the bytes of the line under
+// How far the run is: P (0 before the first line, which `lines` tells), the lines played, the bytes of the line under
 // way, the bytes of output that wait, and whether the run goes on.
 #[derive(Clone, Copy)]
 pub struct Progress {

@@ -20,6 +20,7 @@ pub enum Taken {
 }
 
 // The bytes of the block from `from` on join the `used` bytes of the line under way.
+// Not a slice of the line: behind its first `used` bytes is the room for these.
 pub fn take(line: &mut [u8], used: usize, block: &[u8], from: usize) -> Taken
     requires { UnderWay line.old used block.now from }
     ensures { TakesBytes (exclusive line) used (shared block) from result }

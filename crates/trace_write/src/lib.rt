@@ -1,5 +1,6 @@
 // What the trace program writes: the bytes of an answer, or of a line that does not read. Each
 // function writes into a lent buffer from a place on and answers the place after the last byte.
+// Not a cursor: the program holds the buffer from line to line, and what waits in it is before the place.
 #![tactic(auto)]
 
 ghost use Rattle.std.specs.Prelude.{◌+◌, ◌*◌, ◌≤◌, ◌<◌, length};
