@@ -64,7 +64,8 @@ pub fn mark_step(
     roots: &[u64],
 ) -> Result<Accepted, Refusal>
     requires { AuditedHeap p arena.now table.now bits.old roots.now }
-    ensures { Does (λ h. mark_step h) p (shared arena) (shared table) (exclusive bits) (shared roots) (answered result) }
+    ensures { Does (λ h. mark_step h) p (shared arena) (shared table)
+        (exclusive bits) (shared roots) (answered result) }
 {
     root_checks::check_phase(roots, units::MARK)?;
     let Some(w) = first_gray(p, bits) else {
