@@ -9,6 +9,7 @@ ghost use Rattle.trace_write.specs.Text.{longest_answer};
 ghost use Rattle.trace_line.specs.Play.{most_pages};
 ghost use Rattle.play.specs.Run.{block_bytes, LentMemory, InRange};
 
+use heap::Buffers;
 use std::io::{Read, Stdin, Stdout, Write};
 use trace_split::Taken;
 
@@ -62,7 +63,8 @@ fn room(stdout: Stdout, out: &[u8], at: usize) -> usize
 }
 
 // A line that was read to its end, on the part of each buffer that the run's pages take: those that
-// the first line asks for, if it asks for some.
+// the first line asks for, if it asks for some. The memory itself is lent as four slices and not as one
+// value: that a slice keeps its length is known, and of a value each contract would have to say it.
 fn play_line(
     stdout: Stdout,
     arena: &mut [u64],
@@ -86,13 +88,16 @@ fn play_line(
     };
     let lines = run.lines.wrapping_add(1);
     let n = pages as usize;
-    let arena = &mut arena[..units::PAGE_WORDS * n];
-    let table = &mut table[..units::ENTRY_NUMBERS * n];
-    let bits = &mut bits[..units::BITMAP_WORDS * n];
+    let mut buffers = Buffers {
+        arena: &mut arena[..units::PAGE_WORDS * n],
+        table: &mut table[..units::ENTRY_NUMBERS * n],
+        bits: &mut bits[..units::BITMAP_WORDS * n],
+        roots,
+    };
     let step = if is_first {
-        trace_line::first_line(arena, table, bits, roots, line, out, at)
+        trace_line::first_line(&mut buffers, line, out, at)
     } else {
-        trace_line::later_line(pages, arena, table, bits, roots, lines, line, out, at)
+        trace_line::later_line(pages, &mut buffers, lines, line, out, at)
     };
     Progress {
         pages,

@@ -7,8 +7,10 @@ ghost use Rattle.model.specs.Answers.{accepted};
 ghost use Rattle.trace_read.specs.Lines.{read_line};
 ghost use Rattle.trace_write.specs.Text.{longest_answer};
 ghost use Rattle.trace_line.specs.Play.{in_reach, played_setup, first, later, pages_of, PlaysLine};
+ghost use Rattle.heap.specs.Buffers.{on_buffers, SameLoans};
 ghost use Rattle.model.specs.Promises.{exclusive};
 
+use heap::Buffers;
 use model::{Answer, Call, Refusal};
 use trace_read::Line;
 
@@ -46,24 +48,16 @@ fn is_accepted(answer: Answer) -> bool
 }
 
 // `H p`, as the first line.
-fn set_up(
-    p: u64,
-    arena: &mut [u64],
-    table: &mut [u32],
-    bits: &mut [u64],
-    roots: &mut [u64],
-    out: &mut [u8],
-    at: usize,
-) -> LineResult
+fn set_up(p: u64, buffers: &mut Buffers, out: &mut [u8], at: usize) -> LineResult
     requires { at + longest_answer ≤ length out.old }
-    ensures { PlaysLine (played_setup p) 0 (exclusive arena) (exclusive table) (exclusive bits)
-        (exclusive roots) (exclusive out) at result }
+    ensures plays { on_buffers (PlaysLine (played_setup p) 0) buffers.old buffers.new (exclusive out) at result }
+    ensures same { SameLoans buffers.old buffers.new }
 {
     if !in_reach(p) {
         let e = trace_write::write_answer(out, at, Answer::from(Err(Refusal::BadBuffers)));
         return LineResult { at: e, more: false };
     }
-    let answer = heap::make(p, arena, table, bits, roots, Call::Setup);
+    let answer = buffers.make(p, Call::Setup);
     let more = is_accepted(answer);
     let e = trace_write::write_answer(out, at, answer);
     LineResult { at: e, more }
@@ -71,47 +65,38 @@ fn set_up(
 
 // The first line of a trace. The buffers are those of the pages that `pages` tells, of none
 // where it tells none.
-pub fn first_line(
-    arena: &mut [u64],
-    table: &mut [u32],
-    bits: &mut [u64],
-    roots: &mut [u64],
-    line: &[u8],
-    out: &mut [u8],
-    at: usize,
-) -> LineResult
+pub fn first_line(buffers: &mut Buffers, line: &[u8], out: &mut [u8], at: usize) -> LineResult
     requires { at + longest_answer ≤ length out.old }
-    ensures { PlaysLine (first (read_line line.now)) 0 (exclusive arena) (exclusive table)
-        (exclusive bits) (exclusive roots) (exclusive out) at result }
+    ensures plays { on_buffers (PlaysLine (first (read_line line.now)) 0) buffers.old buffers.new
+        (exclusive out) at result }
+    ensures same { SameLoans buffers.old buffers.new }
 {
     let Some(Line::Setup(p)) = trace_read::read(line) else {
         let e = trace_write::write_bad(out, at, 1);
         return LineResult { at: e, more: false };
     };
-    set_up(p, arena, table, bits, roots, out, at)
+    set_up(p, buffers, out, at)
 }
 
 // A later line of a trace, by its number from 1, on a heap of p pages.
 pub fn later_line(
     p: u64,
-    arena: &mut [u64],
-    table: &mut [u32],
-    bits: &mut [u64],
-    roots: &mut [u64],
+    buffers: &mut Buffers,
     number: u64,
     line: &[u8],
     out: &mut [u8],
     at: usize,
 ) -> LineResult
     requires { at + longest_answer ≤ length out.old }
-    ensures { PlaysLine (later (read_line line.now) number) p (exclusive arena) (exclusive table)
-        (exclusive bits) (exclusive roots) (exclusive out) at result }
+    ensures plays { on_buffers (PlaysLine (later (read_line line.now) number) p) buffers.old buffers.new
+        (exclusive out) at result }
+    ensures same { SameLoans buffers.old buffers.new }
 {
     let Some(Line::Call(call)) = trace_read::read(line) else {
         let e = trace_write::write_bad(out, at, number);
         return LineResult { at: e, more: false };
     };
-    let answer = heap::make(p, arena, table, bits, roots, call);
+    let answer = buffers.make(p, call);
     let e = trace_write::write_answer(out, at, answer);
     LineResult { at: e, more: true }
 }

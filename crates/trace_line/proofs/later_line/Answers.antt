@@ -6,10 +6,10 @@ use Rattle.trace_line.proofs.Outcomes.{not_call, plays, plays_bad}
 use Rattle.trace_line.proofs.later_line.Goals as goal
 use Rattle.trace_line.proofs.later_line.Goals.{in_default-via-in-Some+in_default, in_default-via-in_default}
 
-pub returns-in_default : goal.returns-in_default
-returns-in_default c =
+pub returns-in_default-clause-plays : goal.returns-in_default-clause-plays
+returns-in_default-clause-plays c =
     let none : (d : AnyCall) → c.read.result ≡ Some (Call d) → ⊥ = λ d h. elim c.in_default.branch [ in_default-via-in-Some+in_default w ↦ (cc) | in_default-via-in_default w ↦ (cc) ] in
     rw (← c.read.ensures, not_call c.read.result none) (plays_bad c.args.number c.write_bad-e.ensures)
 
-pub returns : goal.returns
-returns c = rw (← c.in-Some-Call.ensures, c.in-Some-Call.field-0-is) (plays true c.make-answer.ensures c.write_answer-e.ensures)
+pub returns-clause-plays : goal.returns-clause-plays
+returns-clause-plays c = rw (← c.in-Some-Call.ensures, c.in-Some-Call.field-0-is) (plays true c.make-answer.ensures.makes c.write_answer-e.ensures)
