@@ -1,7 +1,8 @@
 // One lent list of 64-bit words, read and written by bit number, lowest bit first: a bit is
 // tested, set and cleared, and two searches go through the list by whole words. A word is masked to
 // the bits that are asked for where it may have others, and its trailing zeros are then the number of
-// the lowest that is set. Callers add the offset of the part of the bitmaps that they mean.
+// the lowest that is set. Callers add the offset of the part of the bitmaps that they mean. What is
+// searched goes from bit to bit and is no slice of words: it begins and ends inside words.
 #![tactic(auto)]
 
 ghost use Rattle.std.specs.Prelude.{◌≡◌, true, false, not, MatchOption, ◌+◌, ◌-◌, ◌*◌, ◌/◌, ◌%◌, ◌<◌, ◌≤◌, length};

@@ -1,5 +1,6 @@
 // Ranges of bits of the bitmaps, a 64-bit word at a time: turned on or off, counted, and moved from
 // one part of the bitmaps to another. Bits are numbered from the lowest bit of the first word on. A
+// range is no slice of words: it begins and ends inside words, or lies in the list beside another. A
 // crate apart from bitmap for the gate's time: each wrong program proves its whole crate again.
 #![tactic(auto)]
 

@@ -43,7 +43,8 @@ pub fn next_freed(p: usize, bits: &[u64], from: Word, to: Word) -> Option<Word>
     first_passing(from.0, to.0, |at| bits[at] & !bits[marks + at]).map(Word)
 }
 
-// The lowest clear bit at or after `from` and below `to`, or `to`.
+// The lowest clear bit at or after `from` and below `to`, or `to`: not an Option, since callers count
+// the bits before it.
 pub fn first_clear(ws: &[u64], from: usize, to: usize) -> usize
     requires { (from ≤ to) × (to ≤ word_bits * length ws.now) }
     ensures { result ≡ from + first_below (to - from) (λ k. not (bit_at ws.now (from + k))) }

@@ -1,5 +1,6 @@
 // Allocating a record: the call, and the element that it takes. Where the record goes is found by
-// crate record_room; here each buffer is changed by a function of its own.
+// crate record_room; here each buffer is changed by a function of its own, and is a parameter of its
+// own, as C lends it.
 #![tactic(auto)]
 
 ghost use Rattle.std.specs.Prelude.{true, ◌≡◌};

@@ -1,6 +1,7 @@
 // The end of marking: the mark step and finish. They are taken after the audit, of which each requires
 // what it is lent the buffers for. The lowest gray record and the end of a record's pointer words are
-// found a bitmap word at a time.
+// found a bitmap word at a time. Each buffer is a parameter of its own, as C lends it: those that a call
+// never changes as `const`.
 #![tactic(auto)]
 
 ghost use Rattle.std.specs.Prelude.{◌≡◌, ◌+◌, eqb, get_or};

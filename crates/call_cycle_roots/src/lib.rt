@@ -1,6 +1,7 @@
 // The roots' part of a cycle: start, which makes every open stack and the globals gray, and their
 // scans, which shade what the slots name. They are taken after the audit, of which each requires what
-// it is lent the buffers for.
+// it is lent the buffers for. Each buffer is a parameter of its own, as C lends it: those that a call
+// never changes as `const`.
 #![tactic(auto)]
 
 ghost use Rattle.std.specs.Prelude.{◌≡◌, ◌<◌, OnOk, cond, eqb, get_or};

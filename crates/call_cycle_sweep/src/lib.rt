@@ -1,5 +1,6 @@
 // The sweep step of a cycle: the lowest unswept span is swept, by crate span_sweep. The span is read
-// once and handed on; no word of the arena is read. The step is made after the audit.
+// once and handed on; no word of the arena is read. The step is made after the audit. Each buffer is a
+// parameter of its own, as C lends it.
 #![tactic(auto)]
 
 ghost use Rattle.model.specs.Cycle.{sweep_step};

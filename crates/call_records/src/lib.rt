@@ -1,7 +1,8 @@
 // The calls on records: a pointer word is loaded into a slot or stored from one, a number is put or
 // got; and a slot is stored to a global, which has the barrier too. The field is found once, by crate
 // record_fields: a pointer word or a number, with where it stands, or the call's refusal. They are taken
-// after the audit.
+// after the audit. Each buffer is a parameter of its own, as C lends it: those that a call never changes
+// as `const`.
 #![tactic(auto)]
 
 ghost use Rattle.std.specs.Prelude.{◌*◌, ◌<◌, IfOk};

@@ -1,5 +1,5 @@
 // Setup, the one call that does not ask the audit: whatever the buffers hold becomes an empty heap.
-// The arena is left alone, so it is not lent.
+// The arena is left alone, so it is not lent. The others are parameters of their own, as C lends them.
 #![tactic(auto)]
 
 ghost use Rattle.model.specs.Lent.{Roots};

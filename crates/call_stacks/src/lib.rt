@@ -1,6 +1,8 @@
 // The calls that read and change the roots alone: opening and closing a stack, copying and clearing
 // a slot, loading a global. Each asks the check of crate root_checks that may refuse it, and then does
-// its work. They are taken after the audit, of which they need the roots' length.
+// its work. They are taken after the audit, of which they need the roots' length. Two pairs look alike,
+// opening and closing, copying and loading a global: what differs, the check and what is written, is
+// what the call is.
 #![tactic(auto)]
 
 ghost use Rattle.std.specs.Prelude.{◌<◌};

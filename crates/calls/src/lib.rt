@@ -1,5 +1,6 @@
 // The audited call that is asked for: each of the nineteen by its own function, which is lent the
-// buffers that it needs. The entry check has been made before.
+// buffers that it needs. The entry check has been made before. A match and no table of functions: each is
+// lent other buffers, and is given other numbers.
 #![tactic(auto)]
 
 ghost use Rattle.model.specs.Calls.{does};

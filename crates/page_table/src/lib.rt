@@ -52,7 +52,8 @@ pub fn starts_span(table: &[u32], g: Page) -> bool
     owner(table, g) == g.0 + 1
 }
 
-// The start page of the span that page g belongs to, 0 for a free page.
+// The start page of the span that page g belongs to, 0 for a free page: not an Option, since `span_of` of
+// the definitions gives 0 there.
 fn span_of_page(table: &[u32], g: Page) -> Page
     requires { HasEntry table.now g.0 }
     ensures { result.0 ≡ owner table.now g.0 - 1 }

@@ -25,8 +25,9 @@ const TABLE_NUMBERS: usize = units::ENTRY_NUMBERS * PAGES;
 
 const BITMAP_WORDS: usize = units::BITMAP_WORDS * PAGES;
 
-// How far the run is: P (0 before the first line, which `lines` tells), the lines played, the bytes of the line under
-// way, the bytes of output that wait, and whether the run goes on.
+// How far the run is: P (0 before the first line, which `lines` tells), the lines played, the bytes of
+// the line under way, the bytes of output that wait, and whether the run goes on: a flag and no enum,
+// since the rest is there in both cases.
 #[derive(Clone, Copy)]
 pub struct Progress {
     pub pages: u64,

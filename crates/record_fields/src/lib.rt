@@ -1,7 +1,8 @@
 // The fields of records: what word f of a record is, a pointer word or a number, and where it stands,
 // or why a call on it is refused. In audited buffers the pointer words of a record are a run from its
 // first word on, so that a field is a pointer word exactly if it lies in the element and its pointer
-// bit is on: nothing is counted.
+// bit is on: nothing is counted. The buffers are not made one value: the calls are lent each by itself,
+// and would make it for the one question.
 #![tactic(auto)]
 
 ghost use Rattle.model.specs.Facts.{Element};

@@ -1,6 +1,7 @@
 // Shading: a white record is marked, and made gray where its span is scan. One value, the barrier's
 // two, and the values of a lent slice, as the scans and the mark step shade them. Only the bitmaps
-// change; each function that counts says how many mark bits it turned on.
+// change; each function that counts says how many mark bits it turned on. The page table and the bitmaps
+// are not made one value: only one of them may be changed, and the calls are lent each by itself.
 #![tactic(auto)]
 
 ghost use Rattle.model.specs.Shading.{barrier};

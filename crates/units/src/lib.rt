@@ -25,7 +25,8 @@ pub const WORD_BITS: usize = 64;
 // The bitmap words of a page in each part. Each has the bits of 64 arena words, a block.
 pub const PAGE_BLOCKS: usize = 16;
 
-// The parts of the bitmaps, each by how many stand before it. The allocated one is the first.
+// The parts of the bitmaps, each by how many stand before it. The allocated one is the first. Numbers
+// and no enum: they are factors of an offset.
 pub const MARKED_PART: usize = 1;
 
 pub const GRAY_PART: usize = 2;
@@ -52,7 +53,8 @@ pub const GLOBALS_STATE: usize = 560;
 
 pub const PHASE: usize = 561;
 
-// The states of a stack; the globals have the last two.
+// The states of a stack; the globals have the last two. Numbers and no enum, as the phases are: they are
+// compared with words of the lent roots, as the scope document has them.
 pub const CLOSED: u64 = 0;
 
 pub const OPEN: u64 = 1;
@@ -93,7 +95,8 @@ impl Address {
         self.0 == NIL
     }
 
-    // The word that the address names; word 0 where it lies below all of them.
+    // The word that the address names; word 0 where it lies below all of them. Not an Option: `word_of` of
+    // the definitions gives 0 there, and `names_word` tells the two apart.
     pub fn word(self) -> Word
         ensures { result.0 ≡ word_of self.0 }
     {
