@@ -1,6 +1,7 @@
 -- The search for room: what each way out of it has found, and how the chain of refusals goes on.
 use Prim.Native.Nat.{ℕ, ◌<◌}
 use mathlib.Core.Bool.{Bool, true, false, not, true≢false}
+use mathlib.Core.List.{List}
 use mathlib.Core.Logic.{inl}
 use mathlib.Core.Path.{◌≡◌, refl, ap, sym, ◌∙◌}
 use native.Mathlib.Omega.{arith}
@@ -146,3 +147,7 @@ module _ (h : Heap) (s i size q : ℕ) where
 -- a size that passed has pages
 pub size_pages : (size q : ℕ) → 0 ≡ size_refusal size q → 0 < pages_for size
 size_pages size q e = let x = simp passes at (sym e) in (size_fits size x.0.1).pages
+
+-- what is said of a page table and bitmaps, of those that are left in their place
+pub left_in : (Q : List ℕ → List ℕ → Type 0) {t t' b b' : List ℕ} → t' ≡ t → b' ≡ b → Q t b → Q t' b'
+left_in Q e f q = rw (e, f) q

@@ -1,3 +1,4 @@
 pub mod Loop
 pub mod Around
 pub mod Turns
+pub mod Same

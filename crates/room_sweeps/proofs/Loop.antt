@@ -7,7 +7,6 @@ use mathlib.Core.Logic.{inl, inr}
 use mathlib.Core.Path.{◌≡◌, refl, sym, ◌∙◌, subst}
 use native.Mathlib.Omega.{arith}
 use lib.Dec.{T, eqb}
-use lib.ListN.{length}
 use borrow.Author.Tests.{eqb-true, eqb-false}
 use Rattle.model.specs.Memory.{Heap, lent, unswept_flag}
 use Rattle.model.specs.Spans.{kind_entry}
@@ -56,16 +55,10 @@ module _ (test : Heap → ℕ → Bool) (h : Heap) (s : ℕ) (l : s ≤ next_uns
           absurd (true≢false (sym (rw (← z) at ((first_props h.pages (is_next test h)).holds (omega arith))) ∙ e))
       go false q = omega (arith, eqb-false s (next_unswept test h) q)
 
--- the lengths stay
+-- what was audited is
 module _ {goal : Heap → Bool} {test : Heap → ℕ → Bool} {p : ℕ} {t₀ b₀ t b : List ℕ} {s : ℕ} (U : Under goal test p t₀ b₀ t b s) where
   pub still : LentAudited p t₀ b₀ → LentAudited p t b
   still S = (S.0, S.1, U.kept S.0 S.1 S.2)
-
-  pub same_table : LentAudited p t₀ b₀ → length t ≡ length t₀
-  same_table S = omega (arith, S.2.sized.table, (U.kept S.0 S.1 S.2).sized.table)
-
-  pub same_bits : LentAudited p t₀ b₀ → length b ≡ length b₀
-  same_bits S = omega (arith, S.2.sized.bits, (U.kept S.0 S.1 S.2).sized.bits)
 
   -- all pages are passed: what is left is h
   pub ends_none : p ≤ s → (a o : List ℕ) → Audited (lent p a t₀ b₀ o) → lent p a t b o ≡ swept_until goal test (lent p a t₀ b₀ o)

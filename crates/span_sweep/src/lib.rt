@@ -1,7 +1,8 @@
 // The sweep of one span over the words of its bitmaps, for the sweep step and for the allocation that
 // sweeps for room: the pointer bits of what is freed are cleared, the bits are swept, and the span's
 // entry becomes swept or its pages free. The span is read before and handed in; neither the arena nor
-// the roots are needed.
+// the roots are needed. The page table and the bitmaps are lent each by itself, as C lends them to the
+// sweep step.
 #![tactic(auto)]
 
 ghost use Rattle.span_sweep.specs.Needs.{SpanRead, SweepsLentSpan, LentSpan, ClearsFreed};

@@ -10,18 +10,15 @@ use Rattle.record_room.proofs.element_for.Goals as goal
 pub free_between-requires : goal.free_between-requires
 free_between-requires c = (audited_mapped c.requires.0.2, omega arith)
 
-pub returns-in-Some : goal.returns-in-Some
-returns-in-Some c a o F =
-    let h = lent c.args.p a c.args.table.now c.args.bits.now o in
+pub returns-in-Some-clause-sweeps : goal.returns-in-Some-clause-sweeps
+returns-in-Some-clause-sweeps c a o F =
+    let h = lent c.args.tables.now.pages a c.args.tables.now.table.now c.args.tables.now.bits.now o in
     free_at_once c.args.kind (of_all h c.args.kind (Some c.in-Some.word) (c.in-Some.ensures a o))
 
-pub returns-then-swept : goal.returns-then-swept
-returns-then-swept c a o F =
-    let h = lent c.args.p a c.args.table.now c.args.bits.now o in
+pub returns-then-swept-clause-sweeps : goal.returns-then-swept-clause-sweeps
+returns-then-swept-clause-sweeps c a o F =
+    let h = lent c.args.tables.now.pages a c.args.tables.now.table.now c.args.tables.now.bits.now o in
     none_to_sweep c.args.kind (of_all h c.args.kind None (c.in_default.ensures a o)) (c.requires.1 c.if-swept.true)
 
 pub sweep_kind-requires : goal.sweep_kind-requires
-sweep_kind-requires c = (c.requires.0, λ a o. of_all (lent c.args.p a c.args.table.now c.args.bits.now o) c.args.kind None (c.in_default.ensures a o))
-
-pub returns : goal.returns
-returns c = c.sweep_kind.ensures
+sweep_kind-requires c = (c.requires.0, λ a o. of_all (lent c.args.tables.now.pages a c.args.tables.now.table.now c.args.tables.now.bits.now o) c.args.kind None (c.in_default.ensures a o))
