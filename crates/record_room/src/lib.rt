@@ -78,7 +78,8 @@ fn pages_for(tables: &mut Tables, swept: bool, n: usize) -> Option<Page>
 // Outside the sweep phase no span is unswept.
 fn find(tables: &mut Tables, roots: &[u64], shape: Shape) -> Result<RecordPlace, Refusal>
     requires { AuditedTables tables.old.pages tables.old.table.now tables.old.bits.now roots.now × (0 < shape.pages) }
-    ensures finds { on_tables (λ p table bits. FindsPlace shape p table bits (shared roots) result) tables.old tables.new }
+    ensures finds { on_tables (λ p table bits. FindsPlace shape p table bits (shared roots) result)
+        tables.old tables.new }
     ensures same { SameTables tables.old tables.new }
 {
     let swept = roots[units::PHASE] != units::SWEEP;
