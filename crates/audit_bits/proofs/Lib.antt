@@ -1,4 +1,4 @@
-pub mod Blocks
+pub mod BlockRules
 pub mod Masks
 pub mod SpanWords
 pub mod Stretches

@@ -16,6 +16,10 @@ use Rattle.model.specs.Facts.{bit}
 use Rattle.audit_blocks.specs.Block.{on}
 use Rattle.audit_blocks.proofs.Masks.{on_or, on_not, zero_word, not_or, all_cong}
 use Rattle.audit_bits.specs.Rules.{bare}
+use Rattle.audit_bits.specs.Block.{clear}
+use Rattle.audit_bits.specs.Blocks.{said_of, block_at}
+use Rattle.audit_bits.specs.declared.Block.{Block}
+use Rattle.audit_bits.specs.declared.Blocks.{Blocks}
 
 -- the words below one
 pub on_below : (left j : ℕ) → j < 64 → on ((2 ^ 64 - 1) - (2 ^ 64 - 1) * 2 ^ left % 2 ^ 64) j ≡ ltb j left
@@ -69,9 +73,14 @@ module _ (P : ℕ) (b : List ℕ) (at : ℕ) (h : at < page_blocks * P) where
   pub pointer_on : (j : ℕ) → j < 64 → on (get_or b (pointer_part * (page_blocks * P) + at) 0) j ≡ bit P pointer b (word_bits * at + j)
   pointer_on j l = part_on pointer (pointer_part * (page_blocks * P) + at) j l (omega arith)
 
-  pub empty_block : ((i : ℕ) → get_or b i 0 < 2 ^ 64) →
-      eqb (bit_or (bit_or (bit_or (get_or b at 0) (get_or b (marked_part * (page_blocks * P) + at) 0)) (get_or b (gray_part * (page_blocks * P) + at) 0)) (get_or b (pointer_part * (page_blocks * P) + at) 0)) 0 ≡ all_below word_bits (λ j. bare P b (word_bits * at + j))
-  unfolding bare
-  empty_block f =
-      zero_word _ (or_lt 64 _ _ (or_lt 64 _ _ (or_lt 64 _ _ (f at) (f (marked_part * (page_blocks * P) + at))) (f (gray_part * (page_blocks * P) + at))) (f (pointer_part * (page_blocks * P) + at)))
-      ∙ all_cong word_bits _ (λ j. bare P b (word_bits * at + j)) (λ j l. simp (on_or, not_or, allocated_on j l, marked_on j l, gray_on j l, pointer_on j l))
+-- the words of a block have no bit where the arena words have none
+pub bare_block : (x : Blocks) (at : ℕ) → at < page_blocks * x.pages → all_below word_bits (clear (block_at x at)) ≡ all_below word_bits (λ j. said_of bare x (word_bits * at + j))
+unfolding bare
+bare_block x at h =
+    all_cong word_bits (clear (block_at x at)) (λ j. said_of bare x (word_bits * at + j))
+    (λ j l. rw (allocated_on x.pages x.bits.now at h j l, marked_on x.pages x.bits.now at h j l, gray_on x.pages x.bits.now at h j l, pointer_on x.pages x.bits.now at h j l))
+
+-- four words joined are 0 where none of them has a bit
+pub none_on : (x : Block) → x.allocated < 2 ^ 64 → x.marked < 2 ^ 64 → x.gray < 2 ^ 64 → x.pointers < 2 ^ 64 →
+    eqb (bit_or (bit_or (bit_or x.allocated x.marked) x.gray) x.pointers) 0 ≡ all_below word_bits (clear x)
+none_on x a m g q = zero_word _ (or_lt 64 _ _ (or_lt 64 _ _ (or_lt 64 _ _ a m) g) q) ∙ all_cong word_bits _ (clear x) (λ j l. simp (on_or, not_or))

@@ -41,7 +41,7 @@ module _ {t : List ℕ} {s : ℕ} {r : Span} (R : Reads t s r) where
         held = rw (R.class, R.pages) f.inside;
       }
 
-  read_rule : (P phase : ℕ) (b : List ℕ) → all_below (word_bits * (page_blocks * r.pages)) (span_rule P phase b r) ≡ all_below (word_bits * (page_blocks * page_count t s)) (rule_at P phase t b s)
+  read_rule : (P phase : ℕ) (b : List ℕ) → all_below (word_bits * (page_blocks * r.pages)) (span_rule phase P b r) ≡ all_below (word_bits * (page_blocks * page_count t s)) (rule_at P phase t b s)
   read_rule P phase b = rw (R.start, R.class, R.pages, R.scan, R.unswept)
 
 -- the tests of a free page, and of a span, say what the audit says of their words
@@ -57,7 +57,7 @@ module _ {P phase : ℕ} {t b : List ℕ} where
       back : GoodWords P phase t b (page_words * g) (page_words * (g + 1)) → T (all_below page_words (λ o. bare P b (page_words * g + o)))
       back W = (all_iff page_words (λ o. bare P b (page_words * g + o))).1 (λ o l. let z : (page_words * g + o) / page_words ≡ g = omega arith in word_bare (page_words * g + o) (ap (owner t) z ∙ e) (W (page_words * g + o) (omega arith) (omega arith)))
 
-  pub span_good : {g : ℕ} {x : Span} → Reads t g x → Spans P t → phase ≤ sweep → IsSpan t g → (r : Bool) → r ≡ all_below (word_bits * (page_blocks * x.pages)) (span_rule P phase b x) →
+  pub span_good : {g : ℕ} {x : Span} → Reads t g x → Spans P t → phase ≤ sweep → IsSpan t g → (r : Bool) → r ≡ all_below (word_bits * (page_blocks * x.pages)) (span_rule phase P b x) →
       T r ↔ GoodWords P phase t b (page_words * g) (page_words * (g + stretch t g))
   span_good {g} R F legal i r p = rw (p, read_rule R P phase b, ne_eqb (owner t g) 0 (omega arith)) (there, back)
     where
@@ -168,10 +168,10 @@ pub free_stretch : {P phase : ℕ} {t b : List ℕ} {g : ℕ} → owner t g ≡ 
 free_stretch e W = record { words = W; used = λ i. absurd (omega arith) }
 
 module _ {P phase : ℕ} {t b : List ℕ} {g : ℕ} {x : Span} (R : Reads t g x) (F : Spans P t) (legal : phase ≤ sweep) (i : IsSpan t g) where
-  pub kept_stretch : KeepsRules P phase b x → GoodStretch P phase t b g
+  pub kept_stretch : KeepsRules phase P b x → GoodStretch P phase t b g
   kept_stretch K = record { words = (span_good R F legal i _ refl).0 K.0; used = set_used F b g i (rw (R.start, R.pages) at K.1) }
 
-  pub stretch_kept : ((w : ℕ) → WordBits P phase t b w) → Used P t b g → KeepsRules P phase b x
+  pub stretch_kept : ((w : ℕ) → WordBits P phase t b w) → Used P t b g → KeepsRules phase P b x
   stretch_kept A U = ((span_good R F legal i _ refl).1 (λ w _ _. A w), rw (R.start, R.pages) (used_set F b A g i U))
 
 -- what is known where the pass has come to page g: a span or a free page begins there, or g is the end; the words before it have the bits that the

@@ -1,3 +1,5 @@
+pub mod Block
+pub mod Blocks
 pub mod Needs
 pub mod Rules
 pub mod Words

@@ -46,11 +46,11 @@ allowed_in phase scan unswept = record { marks = marks_stand phase unswept; gray
 
 -- the rules for word o of a span, as its first page's entry describes it
 abbrev pub span_rule : ℕ → ℕ → List ℕ → Span → ℕ → Bool
-span_rule P phase b r =
+span_rule phase P b r =
     word_rule P b (first_word r.start.0) (element_words_of r.class r.pages) (elements_of r.class * element_words_of r.class r.pages)
     (allowed_in phase r.scan r.unswept)
 
 -- all words of a span keep them, and it has an allocated element: allocated bits stand at the words' own numbers
 abbrev pub KeepsRules : ℕ → ℕ → List ℕ → Span → Type 0
-KeepsRules P phase b r =
-    T (all_below (word_bits * (page_blocks * r.pages)) (span_rule P phase b r)) × SetBetween b (first_word r.start.0) (first_word (r.start.0 + r.pages))
+KeepsRules phase P b r =
+    T (all_below (word_bits * (page_blocks * r.pages)) (span_rule phase P b r)) × SetBetween b (first_word r.start.0) (first_word (r.start.0 + r.pages))

@@ -1,5 +1,4 @@
 use native.Mathlib.Omega.{arith}
-use borrow.Author.Rules.{rules}
 use mathlib.Core.Path.{◌≡◌}
 use Rattle.model.specs.Spans.{owner}
 use Rattle.model.proofs.Answers.{yes, no}
@@ -21,7 +20,7 @@ loop-g-preserved-else-not-free_page_ok c =
 pub span_ok-requires : goal.span_ok-requires
 span_ok-requires c =
     let F = c.requires.0.spans in
-    (search rules, read_fits c.span_at-span.ensures F (begins F _ c.loop-g.invariant.1 (omega (arith, c.owner.ensures))))
+    read_fits c.span_at-span.ensures F (begins F _ c.loop-g.invariant.1 (omega (arith, c.owner.ensures)))
 
 pub returns-then-not-span_ok : goal.returns-then-not-span_ok
 returns-then-not-span_ok c =

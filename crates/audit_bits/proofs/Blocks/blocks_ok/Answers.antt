@@ -3,10 +3,10 @@ use mathlib.Core.Path.{◌≡◌}
 use Rattle.model.specs.Memory.{page_words, word_bits}
 use native.Mathlib.Omega.{arith}
 use Rattle.audit_bits.proofs.Turns.{stands_first, stands_next, block_words, fails, passes}
-use Rattle.audit_bits.proofs.blocks_ok.Goals as goal
+use Rattle.audit_bits.proofs.Blocks.blocks_ok.Goals as goal
 
 pub loop-k-init : goal.loop-k-init
-loop-k-init c = let a = c.args in stands_first a.p a.bits.now c.first_block-first.result a.size a.held a.allowed (omega arith)
+loop-k-init c = let a = c.args in stands_first a.self.pages a.self.bits.now c.first_block-first.result a.size a.held a.allowed (omega arith)
 
 pub returns-then-not-block_ok : goal.returns-then-not-block_ok
 returns-then-not-block_ok c =
