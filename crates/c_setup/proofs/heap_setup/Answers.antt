@@ -2,13 +2,9 @@
 use mathlib.Core.Path.{sym}
 use Rattle.model.specs.declared.Call.TheVariants.{Setup}
 use Rattle.model.proofs.Checks.{lengths_passed}
-use Rattle.model.proofs.Outcomes.{entered, not_entered}
-use Rattle.model.proofs.Refusals.{number_some}
+use Rattle.model.proofs.Outcomes.{entered}
 use Rattle.call_setup.proofs.Emptied.{set_up}
 use Rattle.c_setup.proofs.heap_setup.Goals as goal
-
-pub returns-in-Err : goal.returns-in-Err
-returns-in-Err c = (_, (not_entered _ Setup c.in-Err.ensures (number_some _), c.write_answer.ensures))
 
 pub setup-told-requires : goal.setup-told-requires
 setup-told-requires c = (lengths_passed _ (sym c.in_default.ensures)).roots

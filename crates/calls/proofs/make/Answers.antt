@@ -1,5 +1,4 @@
 -- `calls::make` meets its contract: each arm by the contract of the audited call that it makes, which the entry check lets in.
-use mathlib.Core.Path.{refl}
 use Rattle.model.specs.declared.Call.TheVariants.{Setup, Open, Close, Allocate, Copy, Clear, Load, Store, Put, Get, LoadGlobal, StoreGlobal, Start, ScanStack, ScanGlobals, MarkStep, Finish, SweepStep}
 use Rattle.model.proofs.Checks.{lengths_passed, entry_passed}
 use Rattle.call_setup.proofs.Emptied.{set_up}
@@ -62,57 +61,3 @@ sweep_step-requires c = (_, entry_passed _ (let_in _ SweepStep c.in-SweepStep.is
 
 pub returns-in-Setup : goal.returns-in-Setup
 returns-in-Setup c = rw c.in-Setup.is (set_up _ (lengths_passed _ (let_in _ Setup c.in-Setup.is c.requires)) c.setup.ensures)
-
-pub returns-in-Audit : goal.returns-in-Audit
-returns-in-Audit c = rw c.in-Audit.is (record { answer = refl; listed = refl; arena = refl; table = refl; bits = refl; roots = refl })
-
-pub returns-in-Open : goal.returns-in-Open
-returns-in-Open c = rw c.in-Open.is (c.open_stack.ensures _ _ _ _)
-
-pub returns-in-Close : goal.returns-in-Close
-returns-in-Close c = rw c.in-Close.is (c.close_stack.ensures _ _ _ _)
-
-pub returns-in-Allocate : goal.returns-in-Allocate
-returns-in-Allocate c = rw c.in-Allocate.is c.allocate.ensures
-
-pub returns-in-Copy : goal.returns-in-Copy
-returns-in-Copy c = rw c.in-Copy.is (c.copy.ensures _ _ _ _)
-
-pub returns-in-Clear : goal.returns-in-Clear
-returns-in-Clear c = rw c.in-Clear.is (c.clear.ensures _ _ _ _)
-
-pub returns-in-Load : goal.returns-in-Load
-returns-in-Load c = rw c.in-Load.is c.load.ensures
-
-pub returns-in-Store : goal.returns-in-Store
-returns-in-Store c = rw c.in-Store.is c.store.ensures
-
-pub returns-in-Put : goal.returns-in-Put
-returns-in-Put c = rw c.in-Put.is c.put.ensures
-
-pub returns-in-Get : goal.returns-in-Get
-returns-in-Get c = rw c.in-Get.is c.get.ensures
-
-pub returns-in-LoadGlobal : goal.returns-in-LoadGlobal
-returns-in-LoadGlobal c = rw c.in-LoadGlobal.is (c.load_global.ensures _ _ _ _)
-
-pub returns-in-StoreGlobal : goal.returns-in-StoreGlobal
-returns-in-StoreGlobal c = rw c.in-StoreGlobal.is (c.store_global.ensures _)
-
-pub returns-in-Start : goal.returns-in-Start
-returns-in-Start c = rw c.in-Start.is (c.start.ensures _ _ _ _)
-
-pub returns-in-ScanStack : goal.returns-in-ScanStack
-returns-in-ScanStack c = rw c.in-ScanStack.is (c.scan_stack.ensures _)
-
-pub returns-in-ScanGlobals : goal.returns-in-ScanGlobals
-returns-in-ScanGlobals c = rw c.in-ScanGlobals.is (c.scan_globals.ensures _)
-
-pub returns-in-MarkStep : goal.returns-in-MarkStep
-returns-in-MarkStep c = rw c.in-MarkStep.is c.mark_step.ensures
-
-pub returns-in-Finish : goal.returns-in-Finish
-returns-in-Finish c = rw c.in-Finish.is (c.finish.ensures _)
-
-pub returns-in-SweepStep : goal.returns-in-SweepStep
-returns-in-SweepStep c = rw c.in-SweepStep.is (c.sweep_step.ensures _)
