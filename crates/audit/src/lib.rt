@@ -1,7 +1,8 @@
 // The audit and the entry check: the question that every call after setup asks first. The page table
 // is passed before the bits, and the bits before what they lead to, so that each part may rely on
 // the one before it. So the audit goes over the page table three times: for itself, for the bits and
-// for the words of the arena. Each buffer is a parameter of its own, as C lends it to the calls that ask.
+// for the words of the arena. Each buffer is a parameter of its own, as C
+// lends it to the calls that ask: each would make one value of the four for the one question.
 #![tactic(auto)]
 
 ghost use Rattle.std.specs.Prelude.{◌↔◌, ◌≡◌, T};

@@ -30,7 +30,8 @@ struct Allowed {
     pointers: bool,
 }
 
-// A mask for every word of a block, or for none.
+// A mask for every word of a block, or for none. Crate bitmap_range, on which this one does not rest, has
+// this line too.
 fn flag(all: bool) -> u64
     ensures { result ≡ cond all (2 ^ 64 - 1) 0 }
 {

@@ -2,7 +2,8 @@
 // tested, set and cleared, and two searches go through the list by whole words. A word is masked to
 // the bits that are asked for where it may have others, and its trailing zeros are then the number of
 // the lowest that is set. Callers add the offset of the part of the bitmaps that they mean. What is
-// searched goes from bit to bit and is no slice of words: it begins and ends inside words.
+// searched goes from bit to bit and is no slice of words: it begins and ends inside words, and what is
+// found is a number in the list.
 #![tactic(auto)]
 
 ghost use Rattle.std.specs.Prelude.{◌≡◌, true, false, not, MatchOption, ◌+◌, ◌-◌, ◌*◌, ◌/◌, ◌%◌, ◌<◌, ◌≤◌, length};
@@ -54,7 +55,8 @@ fn past_zeros(ws: &[u64], from: usize, end: usize) -> usize
     ensures { (from ≤ result) × (result ≤ end) × Zeros ws.now from result }
 {
     let mut at = from;
-    // Not a for over chunks: the number of the word would be counted beside them.
+    // Not a for over chunks: a chunk's number times four would be added to where the search begins, and
+    // what is left behind the last whole chunk be taken apart.
     while 4 <= end - at {
         let some = ws[at] | ws[at + 1] | ws[at + 2] | ws[at + 3];
         if some != 0 {

@@ -1,6 +1,7 @@
 // Ranges of bits of the bitmaps, a 64-bit word at a time: turned on or off, counted, and moved from
 // one part of the bitmaps to another. Bits are numbered from the lowest bit of the first word on. A
-// range is no slice of words: it begins and ends inside words, or lies in the list beside another. A
+// range is no slice of words: it begins and ends inside words, or lies in the list beside another, by
+// whose place callers know it. A
 // crate apart from bitmap for the gate's time: each wrong program proves its whole crate again.
 #![tactic(auto)]
 
@@ -12,7 +13,7 @@ ghost use Rattle.bitmap_range.specs.Moved.{moved_words};
 
 use units::{ALL_BITS, WORD_BITS};
 
-// The word of 64 equal bits.
+// The word of 64 equal bits. The audit of bits, which does not rest on this crate, has this line too.
 fn all_bits(on: bool) -> u64
     ensures { result ≡ cond on (2 ^ word_bits - 1) 0 }
 {

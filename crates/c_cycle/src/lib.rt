@@ -7,6 +7,7 @@ ghost use Rattle.c_answer.specs.Exported.{Exports};
 ghost use Rattle.model.specs.Promises.{exclusive, shared};
 
 use c_answer::write_answer;
+use model::Answer;
 
 #[unsafe(no_mangle)]
 pub extern "C" fn heap_start(
@@ -20,10 +21,10 @@ pub extern "C" fn heap_start(
     ensures { Exports Start p (shared arena) (shared table) (shared bits) (exclusive roots) (exclusive out) result }
 {
     if let Err(refusal) = audit::entry(p, arena, table, bits, roots) {
-        return write_answer(Err(refusal), out);
+        return write_answer(Answer::from(Err(refusal)), out);
     }
     let answer = call_cycle_roots::start(roots);
-    write_answer(answer, out)
+    write_answer(Answer::from(answer), out)
 }
 
 #[unsafe(no_mangle)]
@@ -40,10 +41,10 @@ pub extern "C" fn heap_scan_stack(
         (exclusive roots) (exclusive out) result }
 {
     if let Err(refusal) = audit::entry(p, arena, table, bits, roots) {
-        return write_answer(Err(refusal), out);
+        return write_answer(Answer::from(Err(refusal)), out);
     }
     let answer = call_cycle_roots::scan_stack(p as usize, table, bits, roots, s);
-    write_answer(answer, out)
+    write_answer(Answer::from(answer), out)
 }
 
 #[unsafe(no_mangle)]
@@ -59,10 +60,10 @@ pub extern "C" fn heap_scan_globals(
         (exclusive roots) (exclusive out) result }
 {
     if let Err(refusal) = audit::entry(p, arena, table, bits, roots) {
-        return write_answer(Err(refusal), out);
+        return write_answer(Answer::from(Err(refusal)), out);
     }
     let answer = call_cycle_roots::scan_globals(p as usize, table, bits, roots);
-    write_answer(answer, out)
+    write_answer(Answer::from(answer), out)
 }
 
 #[unsafe(no_mangle)]
@@ -77,10 +78,10 @@ pub extern "C" fn heap_mark_step(
     ensures { Exports MarkStep p (shared arena) (shared table) (exclusive bits) (shared roots) (exclusive out) result }
 {
     if let Err(refusal) = audit::entry(p, arena, table, bits, roots) {
-        return write_answer(Err(refusal), out);
+        return write_answer(Answer::from(Err(refusal)), out);
     }
     let answer = call_cycle_marks::mark_step(p as usize, arena, table, bits, roots);
-    write_answer(answer, out)
+    write_answer(Answer::from(answer), out)
 }
 
 #[unsafe(no_mangle)]
@@ -95,10 +96,10 @@ pub extern "C" fn heap_finish(
     ensures { Exports Finish p (shared arena) (exclusive table) (shared bits) (exclusive roots) (exclusive out) result }
 {
     if let Err(refusal) = audit::entry(p, arena, table, bits, roots) {
-        return write_answer(Err(refusal), out);
+        return write_answer(Answer::from(Err(refusal)), out);
     }
     let answer = call_cycle_marks::finish(p as usize, table, bits, roots);
-    write_answer(answer, out)
+    write_answer(Answer::from(answer), out)
 }
 
 #[unsafe(no_mangle)]
@@ -114,8 +115,8 @@ pub extern "C" fn heap_sweep_step(
         (exclusive roots) (exclusive out) result }
 {
     if let Err(refusal) = audit::entry(p, arena, table, bits, roots) {
-        return write_answer(Err(refusal), out);
+        return write_answer(Answer::from(Err(refusal)), out);
     }
     let answer = call_cycle_sweep::sweep_step(p as usize, table, bits, roots);
-    write_answer(answer, out)
+    write_answer(Answer::from(answer), out)
 }

@@ -8,6 +8,7 @@ ghost use Rattle.c_answer.specs.Exported.{Exports};
 ghost use Rattle.model.specs.Promises.{exclusive, shared};
 
 use c_answer::write_answer;
+use model::Answer;
 
 #[unsafe(no_mangle)]
 pub extern "C" fn heap_alloc(
@@ -26,12 +27,12 @@ pub extern "C" fn heap_alloc(
         (exclusive bits) (exclusive roots) (exclusive out) result }
 {
     if let Err(refusal) = audit::entry(p, arena, table, bits, roots) {
-        return write_answer(Err(refusal), out);
+        return write_answer(Answer::from(Err(refusal)), out);
     }
     let answer = call_allocate::allocate(
         p as usize, arena, table, bits, roots, s, i, size, pointers,
     );
-    write_answer(answer, out)
+    write_answer(Answer::from(answer), out)
 }
 
 #[unsafe(no_mangle)]
@@ -51,10 +52,10 @@ pub extern "C" fn heap_load(
         (exclusive roots) (exclusive out) result }
 {
     if let Err(refusal) = audit::entry(p, arena, table, bits, roots) {
-        return write_answer(Err(refusal), out);
+        return write_answer(Answer::from(Err(refusal)), out);
     }
     let answer = call_records::load(p as usize, arena, table, bits, roots, s, i, j, f);
-    write_answer(answer, out)
+    write_answer(Answer::from(answer), out)
 }
 
 #[unsafe(no_mangle)]
@@ -74,10 +75,10 @@ pub extern "C" fn heap_store(
         (shared roots) (exclusive out) result }
 {
     if let Err(refusal) = audit::entry(p, arena, table, bits, roots) {
-        return write_answer(Err(refusal), out);
+        return write_answer(Answer::from(Err(refusal)), out);
     }
     let answer = call_records::store(p as usize, arena, table, bits, roots, s, j, f, k);
-    write_answer(answer, out)
+    write_answer(Answer::from(answer), out)
 }
 
 #[unsafe(no_mangle)]
@@ -97,10 +98,10 @@ pub extern "C" fn heap_put(
         (exclusive out) result }
 {
     if let Err(refusal) = audit::entry(p, arena, table, bits, roots) {
-        return write_answer(Err(refusal), out);
+        return write_answer(Answer::from(Err(refusal)), out);
     }
     let answer = call_records::put(p as usize, arena, table, bits, roots, s, j, f, v);
-    write_answer(answer, out)
+    write_answer(Answer::from(answer), out)
 }
 
 #[unsafe(no_mangle)]
@@ -118,10 +119,10 @@ pub extern "C" fn heap_get(
     ensures { Exports (Get s j f) p (shared arena) (shared table) (shared bits) (shared roots) (exclusive out) result }
 {
     if let Err(refusal) = audit::entry(p, arena, table, bits, roots) {
-        return write_answer(Err(refusal), out);
+        return write_answer(Answer::from(Err(refusal)), out);
     }
     let answer = call_records::get(p as usize, arena, table, bits, roots, s, j, f);
-    write_answer(answer, out)
+    write_answer(Answer::from(answer), out)
 }
 
 #[unsafe(no_mangle)]
@@ -140,8 +141,8 @@ pub extern "C" fn heap_store_global(
         (exclusive roots) (exclusive out) result }
 {
     if let Err(refusal) = audit::entry(p, arena, table, bits, roots) {
-        return write_answer(Err(refusal), out);
+        return write_answer(Answer::from(Err(refusal)), out);
     }
     let answer = call_records::store_global(p as usize, table, bits, roots, s, g, i);
-    write_answer(answer, out)
+    write_answer(Answer::from(answer), out)
 }

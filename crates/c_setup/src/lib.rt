@@ -1,6 +1,7 @@
 // Setup and the audit for C and Rust. Each call for C takes P, the four buffers as pointer and length,
 // the call's numbers, and an array of three values for the answer; its result is the refusal's number,
-// or 0. Each is its entry check, then the audited call, which is lent the buffers that it needs; a
+// or 0. Each is its entry check, then the audited call, which is lent the buffers that it needs; the
+// check's refusal returns at once, since a closure for the rest would be lent the same buffers again. A
 // buffer that a call never changes is lent as `&`, `const` in the header. The calls for C are four
 // crates, whose objects go into one archive: one crate of all would be proved again for each of its
 // wrong programs, at three times the cost.
@@ -11,7 +12,7 @@ ghost use Rattle.c_answer.specs.Exported.{Exports};
 ghost use Rattle.model.specs.Promises.{exclusive, shared};
 
 use c_answer::write_answer;
-use model::Accepted;
+use model::{Accepted, Answer};
 
 #[unsafe(no_mangle)]
 pub extern "C" fn heap_setup(
@@ -26,10 +27,10 @@ pub extern "C" fn heap_setup(
         (exclusive out) result }
 {
     if let Err(refusal) = audit::check_buffers(p, arena, table, bits, roots) {
-        return write_answer(Err(refusal), out);
+        return write_answer(Answer::from(Err(refusal)), out);
     }
     let told = call_setup::setup(table, bits, roots);
-    write_answer(Ok(told), out)
+    write_answer(Answer::from(Ok(told)), out)
 }
 
 #[unsafe(no_mangle)]
@@ -44,8 +45,8 @@ pub extern "C" fn heap_audit(
     ensures { Exports Audit p (shared arena) (shared table) (shared bits) (shared roots) (exclusive out) result }
 {
     if let Err(refusal) = audit::entry(p, arena, table, bits, roots) {
-        return write_answer(Err(refusal), out);
+        return write_answer(Answer::from(Err(refusal)), out);
     }
     let told = Accepted::Done;
-    write_answer(Ok(told), out)
+    write_answer(Answer::from(Ok(told)), out)
 }

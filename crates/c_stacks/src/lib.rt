@@ -7,6 +7,7 @@ ghost use Rattle.c_answer.specs.Exported.{Exports};
 ghost use Rattle.model.specs.Promises.{exclusive, shared};
 
 use c_answer::write_answer;
+use model::Answer;
 
 #[unsafe(no_mangle)]
 pub extern "C" fn heap_open(
@@ -21,10 +22,10 @@ pub extern "C" fn heap_open(
     ensures { Exports (Open s) p (shared arena) (shared table) (shared bits) (exclusive roots) (exclusive out) result }
 {
     if let Err(refusal) = audit::entry(p, arena, table, bits, roots) {
-        return write_answer(Err(refusal), out);
+        return write_answer(Answer::from(Err(refusal)), out);
     }
     let answer = call_stacks::open_stack(roots, s);
-    write_answer(answer, out)
+    write_answer(Answer::from(answer), out)
 }
 
 #[unsafe(no_mangle)]
@@ -40,10 +41,10 @@ pub extern "C" fn heap_close(
     ensures { Exports (Close s) p (shared arena) (shared table) (shared bits) (exclusive roots) (exclusive out) result }
 {
     if let Err(refusal) = audit::entry(p, arena, table, bits, roots) {
-        return write_answer(Err(refusal), out);
+        return write_answer(Answer::from(Err(refusal)), out);
     }
     let answer = call_stacks::close_stack(roots, s);
-    write_answer(answer, out)
+    write_answer(Answer::from(answer), out)
 }
 
 #[unsafe(no_mangle)]
@@ -62,10 +63,10 @@ pub extern "C" fn heap_copy(
         (exclusive out) result }
 {
     if let Err(refusal) = audit::entry(p, arena, table, bits, roots) {
-        return write_answer(Err(refusal), out);
+        return write_answer(Answer::from(Err(refusal)), out);
     }
     let answer = call_stacks::copy(roots, s, i, j);
-    write_answer(answer, out)
+    write_answer(Answer::from(answer), out)
 }
 
 #[unsafe(no_mangle)]
@@ -83,10 +84,10 @@ pub extern "C" fn heap_clear(
         (exclusive out) result }
 {
     if let Err(refusal) = audit::entry(p, arena, table, bits, roots) {
-        return write_answer(Err(refusal), out);
+        return write_answer(Answer::from(Err(refusal)), out);
     }
     let answer = call_stacks::clear(roots, s, i);
-    write_answer(answer, out)
+    write_answer(Answer::from(answer), out)
 }
 
 #[unsafe(no_mangle)]
@@ -105,8 +106,8 @@ pub extern "C" fn heap_load_global(
         (exclusive roots) (exclusive out) result }
 {
     if let Err(refusal) = audit::entry(p, arena, table, bits, roots) {
-        return write_answer(Err(refusal), out);
+        return write_answer(Answer::from(Err(refusal)), out);
     }
     let answer = call_stacks::load_global(roots, s, i, g);
-    write_answer(answer, out)
+    write_answer(Answer::from(answer), out)
 }

@@ -70,6 +70,7 @@ pub fn mark_step(
 {
     root_checks::check_phase(roots, units::MARK)?;
     let Some(w) = first_gray(p, bits) else {
+        // 0 and no Option: the answer that the definitions have where no record is gray
         return Ok(Accepted::Value(0));
     };
     scan_record(p, arena, table, bits, w);

@@ -50,7 +50,7 @@ pub fn start(roots: &mut [u64]) -> Result<Accepted, Refusal>
 }
 
 // The n values from word `from` of the roots on, the slots of a stack or the globals, are shaded, if
-// their state, at word `at`, is gray.
+// their state, at word `at`, is gray. Numbers and no slice: the state, which changes, lies in the same list.
 fn scan(
     p: usize,
     table: &[u32],

@@ -23,6 +23,7 @@ pub fn sweep_step(
     root_checks::check_phase(roots, units::SWEEP)?;
     let Some(span) = page_entries::first_unswept(p, table) else {
         roots[units::PHASE] = units::OFF;
+        // 0 and no Option: the answer that the definitions have where no span is unswept
         return Ok(Accepted::Swept(0, 0, 0));
     };
     let page = span.start.0;

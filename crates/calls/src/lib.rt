@@ -1,6 +1,7 @@
 // The audited call that is asked for: each of the nineteen by its own function, which is lent the
 // buffers that it needs. The entry check has been made before. A match and no table of functions: each is
-// lent other buffers, and is given other numbers.
+// lent other buffers, and is given other numbers. The buffers are parameters of their own, since each call
+// is lent them so.
 #![tactic(auto)]
 
 ghost use Rattle.model.specs.Calls.{does};

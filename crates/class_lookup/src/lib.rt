@@ -7,7 +7,8 @@ ghost use Rattle.std.specs.Prelude.{◌≡◌, ◌<◌};
 ghost use Rattle.model.specs.Classes.{class_of};
 ghost use Rattle.class_lookup.specs.Tables.{fine_entries, fine_size, coarse_entries, coarse_size};
 
-// The largest size that is looked up; a larger one has class 0.
+// The largest size that is looked up; a larger one has class 0, not an Option: the scope document numbers
+// the classes so, and a kind is made of the number.
 const MAX_SMALL: u64 = 32768;
 
 // The fine table: its entries, the bytes from one to the next, and the largest size looked up in it.

@@ -19,6 +19,7 @@ pub const MAX_SIZE: u64 = 1048576;
 // the pages of a new span for it, and the words of its element.
 #[derive(Clone, Copy)]
 pub struct Shape {
+    // a number and no enum, as the page table holds it
     pub kind: u32,
     pub pages: usize,
     pub words: usize,

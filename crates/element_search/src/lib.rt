@@ -1,6 +1,6 @@
 // The search for a free element: the lowest of the lowest swept span of a kind that has one, of the
 // spans that start on some pages. It goes by the page table and the bitmaps, which are not made one value:
-// those who ask may change both, and would make it for the one question.
+// those who ask hold both to change them, and would make one to be read for the one question.
 #![tactic(auto)]
 
 ghost use Rattle.std.specs.Prelude.{◌<◌, ◌≤◌};

@@ -63,7 +63,8 @@ fn span_of_page(table: &[u32], g: Page) -> Page
 }
 
 // A span as the entry of its first page describes it, read once and handed on. `flagged` is the kind
-// as it stands there, with the unswept flag, and `kind` the kind without it.
+// as it stands there, with the unswept flag, and `kind` the kind without it: numbers and no enum, as the
+// table holds them.
 #[derive(Clone, Copy)]
 pub struct Span {
     pub start: Page,

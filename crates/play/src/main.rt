@@ -30,6 +30,7 @@ const BITMAP_WORDS: usize = units::BITMAP_WORDS * PAGES;
 // since the rest is there in both cases.
 #[derive(Clone, Copy)]
 pub struct Progress {
+    // 0 and no Option before the first line: so long are the parts of the buffers then
     pub pages: u64,
     pub lines: u64,
     pub used: usize,
@@ -211,7 +212,7 @@ fn main(rt: HostRuntime) {
     for _ in 0..u64::MAX {
         let n = read_block(stdin, &mut block);
         if n == 0 {
-            break;
+            return end(stdout, &mut out, run);
         }
         run = feed(
             stdout,
@@ -225,9 +226,8 @@ fn main(rt: HostRuntime) {
             run,
         );
         if !run.more {
-            break;
+            return end(stdout, &mut out, run);
         }
         run = flushed(stdout, &out, run);
     }
-    end(stdout, &mut out, run);
 }

@@ -21,6 +21,7 @@ use units::{Page, Word};
 #[derive(Clone, Copy)]
 pub struct RecordPlace {
     pub word: Word,
+    // a flag and no enum: the word is there in both cases, and is used alike
     pub fresh: bool,
     pub shape: Shape,
 }

@@ -10,7 +10,8 @@ ghost use Rattle.room_sweeps.specs.Needs.{KindTurn, PageTurn, SweepsKind, Sweeps
 
 use units::{Page, Word};
 
-// The page table and the bitmaps of so many pages, lent to be swept.
+// The page table and the bitmaps of so many pages, lent to be swept. That they are audited is required of
+// it and no ghost field: it would be proved at each end of a sweep, where nobody asks for it.
 #[derive(Drop)]
 pub struct Tables<'a> {
     pub pages: usize,

@@ -2,11 +2,11 @@
 // number; a line's bytes come in, its answer's bytes go out into a lent buffer.
 #![tactic(auto)]
 
-ghost use Rattle.std.specs.Prelude.{◌≡◌, ◌+◌, ◌≤◌, length};
+ghost use Rattle.std.specs.Prelude.{◌≡◌, ◌+◌, ◌≤◌, IfSome, length};
 ghost use Rattle.model.specs.Answers.{accepted};
 ghost use Rattle.trace_read.specs.Lines.{read_line};
 ghost use Rattle.trace_write.specs.Text.{longest_answer};
-ghost use Rattle.trace_line.specs.Play.{in_reach, played_setup, first, later, pages_of, PlaysLine};
+ghost use Rattle.trace_line.specs.Play.{most_pages, in_reach, played_setup, first, later, pages_of, PlaysLine};
 ghost use Rattle.heap.specs.Buffers.{on_buffers, SameLoans};
 ghost use Rattle.model.specs.Promises.{exclusive};
 
@@ -33,7 +33,8 @@ fn in_reach(p: u64) -> bool
 
 // How many pages the first line asks for, if it asks for some that can be had.
 pub fn pages(line: &[u8]) -> Option<u64>
-    ensures { result ≡ pages_of (read_line line.now) }
+    ensures asked { result ≡ pages_of (read_line line.now) }
+    ensures within { IfSome result (λ p. p ≤ most_pages) }
 {
     match trace_read::read(line)? {
         Line::Setup(p) if in_reach(p) => Some(p),

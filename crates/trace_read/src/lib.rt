@@ -22,7 +22,7 @@ pub const LONGEST: usize = 80;
 // No letter takes more numbers.
 const MOST_NUMBERS: usize = 4;
 
-// The numbers of a line: the first `count` of these.
+// The numbers of a line: the first `count` of these. Not a Vec: the program has no heap.
 #[derive(Clone, Copy)]
 struct Numbers {
     pub values: [u64; MOST_NUMBERS],

@@ -20,7 +20,8 @@ pub enum Taken {
 }
 
 // The bytes of the block from `from` on join the `used` bytes of the line under way.
-// Not a slice of the line: behind its first `used` bytes is the room for these.
+// Not a slice of the line: behind its first `used` bytes is the room for these; nor of the block: the
+// place behind a line is told in it.
 pub fn take(line: &mut [u8], used: usize, block: &[u8], from: usize) -> Taken
     requires { UnderWay line.old used block.now from }
     ensures { TakesBytes (exclusive line) used (shared block) from result }

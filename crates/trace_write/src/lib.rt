@@ -20,11 +20,11 @@ fn write_decimal(out: &mut [u8], at: usize, n: u64) -> usize
     ensures { Wrote (decimal n) at out.old out.new result }
 {
     if n < 10 {
-        out[at] = 48 + n as u8;
+        out[at] = b'0' + n as u8;
         return at + 1;
     }
     let e = write_decimal(out, at, n / 10);
-    out[e] = 48 + (n % 10) as u8;
+    out[e] = b'0' + (n % 10) as u8;
     e + 1
 }
 

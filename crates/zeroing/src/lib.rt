@@ -24,7 +24,7 @@ impl HasZero for u32 {
     const ZERO: u32 = 0;
 }
 
-// Every word, or number, becomes 0.
+// Every word, or number, becomes 0. Not by the library's fill: it asks for a clone that cannot fail.
 pub fn zero<T: HasZero>(ws: &mut [T])
     ensures { ws.new ≡ replicate (length ws.old) T.ZERO }
 {

@@ -12,4 +12,4 @@ setup-told-requires c = (lengths_passed _ (sym c.in_default.ensures)).roots
 pub returns : goal.returns
 returns c =
     let zero = sym c.in_default.ensures in
-    (_, (entered _ Setup zero (set_up _ (lengths_passed _ zero) c.setup-told.ensures), c.write_answer-2.ensures))
+    (_, (entered _ Setup zero (set_up _ (lengths_passed _ zero) c.setup-told.ensures), rw c.from-2.ensures at c.write_answer-2.ensures))

@@ -1,12 +1,11 @@
-use Rattle.std.proofs.Common.{refl}
 use native.Mathlib.Omega.{arith}
 use Rattle.room_sweeps.proofs.Loop.{begun, still, goes_on}
-use Rattle.room_sweeps.proofs.Same.{same_on}
+use Rattle.room_sweeps.proofs.Same.{same_first, same_on}
 use Rattle.room_sweeps.proofs.Turns.{kind_steady, not_found, found_one, no_more}
 use Rattle.room_sweeps.proofs.Tables.sweep_kind.Goals as goal
 
 pub loop-s-init : goal.loop-s-init
-loop-s-init c = (record { pages = refl; table = refl; bits = refl }, begun _ _ c.requires.1)
+loop-s-init c = (same_first, begun _ _ c.requires.1)
 
 pub sweep_of_kind-requires : goal.sweep_of_kind-requires
 sweep_of_kind-requires c = let I = c.loop-s.invariant in rw I.0.pages (still I.1 c.requires.0, omega (arith, c.loop-s-test.true))

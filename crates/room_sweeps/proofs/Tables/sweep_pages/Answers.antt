@@ -1,13 +1,12 @@
-use Rattle.std.proofs.Common.{refl}
 use native.Mathlib.Omega.{arith}
 use borrow.Author.Tests.{le-ltb, ltb-false}
 use Rattle.room_sweeps.proofs.Loop.{begun, still, goes_on}
-use Rattle.room_sweeps.proofs.Same.{same_on}
+use Rattle.room_sweeps.proofs.Same.{same_first, same_on}
 use Rattle.room_sweeps.proofs.Turns.{any_steady, no_run, found_run, no_more_runs}
 use Rattle.room_sweeps.proofs.Tables.sweep_pages.Goals as goal
 
 pub loop-s-init : goal.loop-s-init
-loop-s-init c = (record { pages = refl; table = refl; bits = refl }, begun _ _ (λ a o. le-ltb _ _ c.requires.1))
+loop-s-init c = (same_first, begun _ _ (λ a o. le-ltb _ _ c.requires.1))
 
 pub sweep_any-requires : goal.sweep_any-requires
 sweep_any-requires c =
