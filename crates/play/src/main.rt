@@ -27,7 +27,8 @@ const BITMAP_WORDS: usize = units::BITMAP_WORDS * PAGES;
 
 // How far the run is: P (0 before the first line, which `lines` tells), the lines played, the bytes of
 // the line under way, the bytes of output that wait, and whether the run goes on: a flag and no enum,
-// since the rest is there in both cases.
+// since the rest is there in both cases. That it is in range (`InRange`) is no ghost field: a value that
+// has one cannot be written by update, as `..run` is.
 #[derive(Clone, Copy)]
 pub struct Progress {
     // 0 and no Option before the first line: so long are the parts of the buffers then
