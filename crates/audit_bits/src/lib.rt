@@ -237,7 +237,9 @@ impl Blocks<'_> {
 }
 
 // The audit's clauses about bits, also where they depend on the phase, and each span has an allocated
-// element. The page table has passed the audit.
+// element. The page table has passed the audit. No part of its caller in the compiled program: there the
+// addresses of the four parts, which every block asks for, would not stay in registers.
+#[inline(never)]
 pub fn bits_ok(p: usize, table: &[u32], bits: &[u64], phase: u64) -> bool
     requires { Mapped p table.now bits.now × Phased phase table.now }
     ensures { T result ↔ GoodBits p phase table.now bits.now }

@@ -62,8 +62,9 @@ impl Kept<'_> {
     pub fn is_reference(self, v: Address) -> bool
         ensures { T result ↔ IsReference self.entry v.0 }
     {
-        let w = v.word();
-        v.is_nil() || v.names_word() && w.0 < PAGE_WORDS * self.pages && self.contains(w)
+        // The word is asked for where the value names one: before the tests it costs each pointer word a step.
+        v.is_nil()
+            || v.names_word() && v.word().0 < PAGE_WORDS * self.pages && self.contains(v.word())
     }
 
     // These words of the roots are references.

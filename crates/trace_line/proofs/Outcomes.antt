@@ -16,7 +16,7 @@ use Rattle.trace_read.specs.declared.Line.{Line}
 use Rattle.trace_read.specs.declared.Line.TheVariants.{Setup, Call}
 use Rattle.trace_write.specs.Text.{answer_text, bad_text, Wrote}
 use Rattle.trace_write.proofs.Bytes.{answer_length, bad_length}
-use Rattle.trace_line.specs.Play.{answered, played_bad, in_reach, setup_refused, played_setup, with_pages, first, later, Plays}
+use Rattle.trace_line.specs.Play.{answered, played_bad, in_reach, setup_refused, played_setup, with_pages, first, later, pages_of, Plays}
 
 -- a call was made and its answer written
 pub plays : {o : Outcome} {answer : Answer} {a t b s x y : List ℕ} {at e : ℕ} (more : Bool) → Meets o answer a t b s → Wrote (answer_text answer) at x y e → Plays (answered o more) at x y (record { at = e; more = more }) a t b s
@@ -62,6 +62,11 @@ pub not_setup : (l : Option Line) → ((p : ℕ) → l ≡ Some (Setup p) → �
 not_setup None k h = refl
 not_setup (Some (Setup p)) k h = absurd (k p refl)
 not_setup (Some (Call c)) k h = refl
+
+pub no_pages : (l : Option Line) → ((p : ℕ) → l ≡ Some (Setup p) → ⊥) → pages_of l ≡ None
+no_pages None k = refl
+no_pages (Some (Setup p)) k = absurd (k p refl)
+no_pages (Some (Call c)) k = refl
 
 pub not_call : (l : Option Line) → ((c : AnyCall) → l ≡ Some (Call c) → ⊥) → (number : ℕ) (h : Heap) → later l number h ≡ played_bad number h
 not_call None k number h = refl

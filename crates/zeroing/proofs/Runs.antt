@@ -24,7 +24,7 @@ longer w n v l h =
     rw (drop-cons l (w + n) 0 h, ← append_assoc (take w l) (replicate n v) (get_or l (w + n) 0 ∷ drop (suc (w + n)) l))
     (rw e at (set-append_seam front (get_or l (w + n) 0) (drop (suc (w + n)) l) v) ∙ append_assoc (take w l) (replicate n v) _ ∙ ap (λ r. take w l ++ r) (one_more n v _))
 
-constant_run : (w n v : ℕ) (l : List ℕ) → w + n ≤ length l → put_words w n (λ x. v) l ≡ take w l ++ (replicate n v ++ drop (w + n) l)
+pub constant_run : (w n v : ℕ) (l : List ℕ) → w + n ≤ length l → put_words w n (λ x. v) l ≡ take w l ++ (replicate n v ++ drop (w + n) l)
 unfolding write_run fold_below
 constant_run w zero v l h = rw add-zero (sym (take-append-drop w l))
 constant_run w (suc n) v l h = rw (constant_run w n v l (omega arith), add-suc w n) (longer w n v l (omega arith))
