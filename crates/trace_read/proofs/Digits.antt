@@ -46,7 +46,7 @@ too_large v (b ∷ bs) l = rw (le-ltb v (2 ^ 64) l, ne_eqb v 0 (λ e. omega arit
 
 -- the bytes from a place on
 module _ (bytes : List ℕ) (i : ℕ) where
-  next : i < length bytes → drop i bytes ≡ get_or bytes i 0 ∷ drop (i + 1) bytes
+  pub next : i < length bytes → drop i bytes ≡ get_or bytes i 0 ∷ drop (i + 1) bytes
   next h = rw (add-one, drop-cons bytes i 0)
 
   -- at the end of the line, and at a byte that is no digit, a number ends

@@ -26,11 +26,11 @@ same : (n : ℕ) → n < 2 ^ 64 → decimal n ≡ std_decimal n
 unfolding decimal
 same n l = decimal_from_appends decimal_in appends 20 n l (length-decimal-le 20 n (omega arith) (omega arith) l)
 
-decimal_digit : (n : ℕ) → n < 10 → decimal n ≡ (48 + n) ∷ []
+pub decimal_digit : (n : ℕ) → n < 10 → decimal n ≡ (48 + n) ∷ []
 unfolding decimal
 decimal_digit n h = appends.one 19 n h
 
-decimal_step : (n : ℕ) → 10 ≤ n → n < 2 ^ 64 → decimal n ≡ decimal (n / 10) ++ ((48 + n % 10) ∷ [])
+pub decimal_step : (n : ℕ) → 10 ≤ n → n < 2 ^ 64 → decimal n ≡ decimal (n / 10) ++ ((48 + n % 10) ∷ [])
 decimal_step n h l = rw (same n l, same (n / 10) (omega arith)) (std_decimal_step n h l)
 
 -- .. and its length
