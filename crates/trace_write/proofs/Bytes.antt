@@ -12,6 +12,7 @@ use borrow.Rule.Slice.PartMut.{put_mid}
 use Rattle.std.specs.Fmt.{decimal as std_decimal}
 use Rattle.std.proofs.lemmas.Fmt.{AppendsLastDigit, decimal_from_appends, length-decimal-le, decimal_step as std_decimal_step}
 use Rattle.std.proofs.lemmas.List.{drop-drop}
+pub use Rattle.std.proofs.lemmas.Grind.{common_steps}
 use borrow.Author.Tests.{lt-ltb, le-ltb}
 use Rattle.model.specs.declared.Answer.{Answer}
 use Rattle.model.specs.declared.Answer.TheVariants.{Refused, Done, Value, Swept}
@@ -54,7 +55,7 @@ unfolding decimal
 decimal_length n = within 20 n
 
 -- one run after another
-sets_append : (l : List ℕ) (i : ℕ) (xs ys : List ℕ) → sets l i (xs ++ ys) ≡ sets (sets l i xs) (i + length xs) ys
+pub sets_append : (l : List ℕ) (i : ℕ) (xs ys : List ℕ) → sets l i (xs ++ ys) ≡ sets (sets l i xs) (i + length xs) ys
 sets_append l i [] ys = ap (λ k. sets l k ys) (omega arith)
 sets_append l i (x ∷ xs) ys = sets_append (set l i x) (suc i) xs ys ∙ ap (λ k. sets (sets (set l i x) (suc i) xs) k ys) (omega arith)
 
@@ -79,6 +80,9 @@ pub last_digit : (n : ℕ) {a b : List ℕ} {at e : ℕ} → 10 ≤ n → n < 2 
 last_digit n h l w = rw (decimal_step n h l) (then w (byte _ _ _))
 
 pub ruleset digit_by_digit = (length_digit, length_step, one_digit, last_digit)
+
+-- runs one after another: what the buffer becomes, and how far they reach
+pub ruleset run_by_run = (common_steps, sets_append, decimal_length)
 
 -- bytes copied over a part of a buffer
 pub copied : (a k : ℕ) (l xs ys : List ℕ) → ys ≡ xs → k ≡ length xs → a + length xs ≤ length l → put_mid a k l ys ≡ sets l a xs

@@ -48,6 +48,7 @@ fn write_bytes(out: &mut [u8], at: usize, bytes: &[u8]) -> usize
 }
 
 // A line: a word, and numbers with a space before each.
+#[tactic(auto, using(crate::proofs::Bytes::run_by_run))]
 fn write_line(out: &mut [u8], at: usize, word: &[u8], numbers: &[u64]) -> usize
     requires { at + length word.now + longest_spaced * length numbers.now < length out.old }
     ensures { Wrote (line_text word.now numbers.now) at out.old out.new result }
