@@ -16,7 +16,7 @@ pub loop-w-preserved : goal.loop-w-preserved
 loop-w-preserved c =
     let a = c.args in
     let e = part_length a.ws.now a.first a.n c.requires.0 in
-    (counted a.ws.now a.first ((a.first + a.n) - a.first) c.loop-w.w-index (λ x. (c.type_inv.ws x).fits) (omega (arith, e)) c.loop-w.invariant).sum
+    grind (arith, (counted a.ws.now a.first ((a.first + a.n) - a.first) c.loop-w.w-index (λ x. (c.type_inv.ws x).fits) (omega (arith, e)) c.loop-w.invariant).sum)
 
 pub returns : goal.returns
 returns c =
